@@ -1,0 +1,6 @@
+//! Open expressions over the slots of a rule, and their values.
+#![tactic(auto)]
+
+mod expr;
+
+pub use expr::{Expr, Kids, Op};

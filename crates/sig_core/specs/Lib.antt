@@ -1,0 +1,3 @@
+pub mod Lists
+pub mod Signatures
+pub mod Values

@@ -1,0 +1,6 @@
+//! Terms, their size and their order.
+#![tactic(auto)]
+
+mod tree;
+
+pub use tree::{Tree, Trees};
