@@ -1,0 +1,68 @@
+ghost use Rattle.std.specs.Prelude.{◌≡◌, ◌≢◌, ◌+◌, ◌^◌, ◌<◌, ◌≤◌, length, take, IfOk};
+ghost use Rattle.std.specs.Option.{ForSome};
+ghost use Rattle.semgus_io.specs.Counts.{Rises};
+
+use semgus_io::{Failed, Files};
+use sig_core::Bytes;
+use std::alloc::{AllocError, Global};
+
+/// Why the bytes of a file could not be had.
+#[derive(Debug, Drop, PartialEq, Eq)]
+pub enum ReadError {
+    Failed,
+    Memory,
+}
+
+impl From<Failed> for ReadError {
+    ghost use Rattle.semgus_app.specs.declared.read.ReadError.TheVariants as variant;
+
+    ghost from_gives = { λ _ e. e ≡ variant.Failed };
+
+    fn from(_: Failed) -> Self {
+        ReadError::Failed
+    }
+}
+
+impl From<AllocError> for ReadError {
+    ghost use Rattle.semgus_app.specs.declared.read.ReadError.TheVariants as variant;
+
+    ghost from_gives = { λ _ e. e ≡ variant.Memory };
+
+    fn from(_: AllocError) -> Self {
+        ReadError::Memory
+    }
+}
+
+/// The number of bytes that are taken at once.
+const CHUNK: usize = 4096;
+
+/// The bytes of the begun file, to its end or to the byte past the limit.
+pub fn read_to_limit<F: Files>(
+    alloc: Global,
+    files: &mut F,
+    limit: usize,
+) -> Result<Bytes, ReadError>
+    requires { limit < 2 ^ 63 }
+    ensures told { IfOk result (λ bytes. ForSome (F.left files.old) (λ whole. bytes ≡ take (limit + 1) whole)) }
+    ensures short { IfOk result (λ bytes. length bytes ≤ limit + 1) }
+    ensures failed { result ≡ Err ReadError.Failed → Rises (F.read_faults files.old) (F.read_faults files.new) }
+    ensures faultless { result ≢ Err ReadError.Failed → F.read_faults files.new ≡ F.read_faults files.old }
+    ensures kept { F.read_faults files.old ≤ F.read_faults files.new }
+    ensures open_faults { F.open_faults files.new ≡ F.open_faults files.old }
+    ensures taken { F.taken files.new ≤ F.taken files.old + (limit + 1) }
+    ensures held { F.held files.new ≡ F.held files.old }
+    ensures steady { F.steady files.new ≡ F.steady files.old }
+{
+    let most = limit + 1;
+    let mut bytes = Bytes::new(alloc);
+    let mut chunk = [0u8; CHUNK];
+    while bytes.len() < most {
+        let room = (most - bytes.len()).min(CHUNK);
+        let count = files.take(&mut chunk[..room])?;
+        if count == 0 {
+            break;
+        }
+        bytes.append(&chunk[..count])?;
+    }
+    Ok(bytes)
+}

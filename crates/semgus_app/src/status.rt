@@ -1,0 +1,56 @@
+ghost use Rattle.std.specs.Prelude.{◌≡◌};
+ghost use Rattle.semgus_app.specs.Statuses.{number_of};
+
+/// Why a file is refused, and where.
+#[derive(Clone, Copy, Debug, PartialEq, Eq)]
+pub struct Fault {
+    /// a byte offset in the file
+    pub place: u32,
+    pub reason: u8,
+    /// the number of the limit that was passed, or 0
+    pub limit: u8,
+}
+
+/// Which of the files that the words name.
+#[derive(Clone, Copy, Debug, PartialEq, Eq)]
+pub enum Which {
+    Problem,
+    Answer,
+}
+
+/// How a run ended.
+#[derive(Clone, Copy, Debug, PartialEq, Eq)]
+pub enum Status {
+    /// an answer text was printed
+    Found,
+    /// `none` was printed: no term solves the problem within the bounds
+    NoTerm,
+    /// the words have none of the forms
+    BadWords,
+    Refused(Which, Fault),
+    /// a file could not be begun
+    CannotOpen,
+    /// a read failed
+    ReadFault,
+    /// a write failed; a first part of the output may be written
+    WriteFault,
+    /// memory was refused; nothing was written
+    Memory,
+}
+
+impl Status {
+    /// The exit status of the program.
+    pub fn number(&self) -> u8
+        ensures { result ≡ number_of self.now }
+    {
+        match self {
+            Status::Found => 0,
+            Status::NoTerm => 1,
+            Status::BadWords => 2,
+            Status::Refused(_, _) => 3,
+            Status::CannotOpen | Status::ReadFault => 4,
+            Status::WriteFault => 5,
+            Status::Memory => 6,
+        }
+    }
+}

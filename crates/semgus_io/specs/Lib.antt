@@ -1,0 +1,6 @@
+pub mod Counts
+pub mod Reads
+pub mod Writes
+pub mod Entries
+pub mod Memory
+pub mod MemorySinks

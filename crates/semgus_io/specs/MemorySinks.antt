@@ -1,0 +1,10 @@
+-- What a sink in memory has taken.
+use Rattle.std.specs.Prelude.{ℕ, List, take}
+use Rattle.semgus_io.specs.declared.memory_sink.MemorySink.{MemorySink}
+
+abbrev pub taken_bytes : MemorySink → List ℕ
+taken_bytes s = take s.len s.room.items
+
+-- the calls that are to fail, counted from 1
+abbrev pub failing_puts : MemorySink → List ℕ
+failing_puts s = s.failing_puts

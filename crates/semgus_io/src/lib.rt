@@ -1,0 +1,18 @@
+//! The files that are read, the sink that is written, and the words of a command line.
+#![tactic(auto)]
+
+mod files;
+mod host_files;
+mod host_sink;
+mod memory_files;
+mod memory_sink;
+mod sink;
+mod words;
+
+pub use files::{Failed, Files};
+pub use host_files::HostFiles;
+pub use host_sink::HostSink;
+pub use memory_files::MemoryFiles;
+pub use memory_sink::MemorySink;
+pub use sink::{Sink, put_all};
+pub use words::Words;

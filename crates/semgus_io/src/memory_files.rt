@@ -1,0 +1,147 @@
+mod entry;
+
+ghost use Rattle.std.specs.Prelude.{◌≡◌, ◌≢◌, ◌<◌, [], ◌∷◌, ◌++◌, ℕ, List, Some, None, OnOk, OnErr};
+
+use crate::{Failed, Files};
+use entry::{Entry, copy_from, find};
+use items::Items;
+use std::alloc::{AllocError, Global};
+
+/// How far the begun file was taken.
+#[derive(Clone, Copy, Debug)]
+struct Place {
+    entry: usize,
+    at: usize,
+}
+
+/// Files in memory, which tell their bytes. Their calls can be made to fail.
+#[derive(Debug, Drop)]
+pub struct MemoryFiles {
+    // The newest file is the first.
+    entries: Vec<Entry>,
+    open: Option<Place>,
+    most_at_once: usize,
+    begins: u64,
+    takes: u64,
+    failing_begins: Items<u64>,
+    failing_takes: Items<u64>,
+    open_faults: u64,
+    read_faults: u64,
+    taken: u64,
+    alloc: Global,
+    ghost some_at_once: { 0 < most_at_once },
+}
+
+impl MemoryFiles {
+    ghost use Rattle.semgus_io.specs.Memory.{held, failing_begins, failing_takes};
+
+    /// Holds no file. A take gives as many bytes as there are and its buffer has room for.
+    pub fn new(alloc: Global) -> MemoryFiles
+        ensures { (name : List ℕ) → held result name ≡ Some None }
+    {
+        MemoryFiles {
+            entries: Vec::new(alloc),
+            open: None,
+            most_at_once: usize::MAX,
+            begins: 0,
+            takes: 0,
+            failing_begins: Items::new(alloc),
+            failing_takes: Items::new(alloc),
+            open_faults: 0,
+            read_faults: 0,
+            taken: 0,
+            alloc,
+        }
+    }
+
+    /// Sets the file of a name. A file that was begun is so no more.
+    pub fn add(&mut self, name: &str, bytes: &[u8]) -> Result<(), AllocError>
+        ensures this { OnOk result (held self.new name.now ≡ Some (Some bytes.now)) }
+        ensures others { (other : List ℕ) → other ≢ name.now → held self.new other ≡ held self.old other }
+        ensures err { OnErr result ((other : List ℕ) → held self.new other ≡ held self.old other) }
+    {
+        let mut entry = Entry::new(self.alloc);
+        entry.name.append(name.as_bytes())?;
+        entry.bytes.append(bytes)?;
+        self.entries.insert(0, entry)?;
+        self.open = None;
+        Ok(())
+    }
+
+    /// Lets each take give at most n bytes.
+    pub fn piece(&mut self, n: usize)
+        requires { 0 < n }
+        ensures { (name : List ℕ) → held self.new name ≡ held self.old name }
+    {
+        self.most_at_once = n;
+    }
+
+    /// Lets a call of `begin` fail: the k-th since the files were made, counted from 1.
+    pub fn fail_begin(&mut self, k: u64) -> Result<(), AllocError>
+        ensures ok { OnOk result (failing_begins self.new ≡ failing_begins self.old ++ k ∷ []) }
+        ensures err { OnErr result (failing_begins self.new ≡ failing_begins self.old) }
+        ensures held { (name : List ℕ) → held self.new name ≡ held self.old name }
+    {
+        self.failing_begins.push(k)
+    }
+
+    /// Lets a call of `take` fail: the k-th since the files were made, counted from 1.
+    pub fn fail_take(&mut self, k: u64) -> Result<(), AllocError>
+        ensures ok { OnOk result (failing_takes self.new ≡ failing_takes self.old ++ k ∷ []) }
+        ensures err { OnErr result (failing_takes self.new ≡ failing_takes self.old) }
+        ensures held { (name : List ℕ) → held self.new name ≡ held self.old name }
+    {
+        self.failing_takes.push(k)
+    }
+}
+
+impl Files for MemoryFiles {
+    ghost use Rattle.std.specs.Prelude.{false};
+    ghost use Rattle.semgus_io.specs.Memory.{held, left};
+
+    ghost held = { held };
+
+    ghost left = { left };
+
+    ghost steady = { λ _. false };
+
+    ghost open_faults = { λ m. m.open_faults };
+
+    ghost read_faults = { λ m. m.read_faults };
+
+    ghost taken = { λ m. m.taken };
+
+    fn begin(&mut self, name: &str) -> Result<(), Failed> {
+        self.begins = self.begins.saturating_add(1);
+        self.open = None;
+        if !self.failing_begins.as_slice().contains(&self.begins) {
+            if let Some(entry) = find(self.entries.as_slice(), name.as_bytes()) {
+                self.open = Some(Place { entry, at: 0 });
+                return Ok(());
+            }
+        }
+        self.open_faults = self.open_faults.saturating_add(1);
+        Err(Failed)
+    }
+
+    fn take(&mut self, buf: &mut [u8]) -> Result<usize, Failed> {
+        self.takes = self.takes.saturating_add(1);
+        if self.failing_takes.as_slice().contains(&self.takes) {
+            self.read_faults = self.read_faults.saturating_add(1);
+            return Err(Failed);
+        }
+        let Some(place) = self.open else {
+            return Ok(0);
+        };
+        let Some(entry) = self.entries.get(place.entry) else {
+            return Ok(0);
+        };
+        let count = copy_from(entry.bytes.as_slice(), place.at, self.most_at_once, buf);
+        self.open = Some(Place {
+            entry: place.entry,
+            at: place.at + count,
+        });
+        self.taken = self.taken.saturating_add(count as u64);
+        Ok(count)
+    }
+}
