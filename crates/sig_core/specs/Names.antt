@@ -23,11 +23,11 @@ reserved_words = codes "!" ∷ codes "_" ∷ codes "as" ∷ codes "exists" ∷ c
     ∷ codes "ite" ∷ codes "+" ∷ codes "-" ∷ codes "*" ∷ codes "div" ∷ codes "mod" ∷ codes "abs" ∷ codes "<" ∷ codes "<=" ∷ codes ">"
     ∷ codes ">=" ∷ codes "Int" ∷ codes "Bool" ∷ []
 
-abbrev pub is_reserved : List ℕ → Bool
-is_reserved name = list_any (same_name name) reserved_words
+unfoldable pub is_reserved : List ℕ → Bool
+is_reserved name = list_any (λ word. same_name word name) reserved_words
 
 -- a letter, a digit, or one of the signs of a simple symbol
-abbrev pub is_symbol_byte : ℕ → Bool
+unfoldable pub is_symbol_byte : ℕ → Bool
 is_symbol_byte b = is_ascii_alphanumeric b || list_any (λ sign. nat_eq sign b) (codes "~!@$%^&*_-+=<>.?/")
 
 -- one or more bytes of a simple symbol, of which the first is no digit

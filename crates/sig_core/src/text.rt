@@ -1,4 +1,5 @@
 ghost use Rattle.std.specs.Prelude.{◌≡◌, ◌++◌, OnOk, OnErr};
+ghost use Rattle.std.specs.List.{list_all};
 ghost use Rattle.sig_core.specs.Names.{is_symbol_byte, is_simple_symbol, is_reserved, symbol_text};
 ghost use Rattle.sig_core.specs.Texts.{literal_text, IsPart};
 
@@ -61,16 +62,24 @@ fn put_between(
 }
 
 /// Whether a simple symbol of SMT-LIB 2.6 spells these bytes.
+#[tactic(auto, using(crate::proofs::NameLemmas::spells))]
 pub fn is_simple_symbol(name: &[u8]) -> bool
     ensures { result ≡ is_simple_symbol name.now }
 {
     match name {
         [] => false,
-        [first, ..] => !first.is_ascii_digit() && name.iter().all(|byte| is_symbol_byte(*byte)),
+        [first, ..] => !first.is_ascii_digit() && has_symbol_bytes(name),
     }
 }
 
+fn has_symbol_bytes(bytes: &[u8]) -> bool
+    ensures { result ≡ list_all is_symbol_byte bytes.now }
+{
+    bytes.iter().all(|byte| is_symbol_byte(*byte))
+}
+
 /// Whether a simple symbol may hold the byte.
+#[tactic(auto, unfolding(crate::specs::Names::is_symbol_byte))]
 pub fn is_symbol_byte(byte: u8) -> bool
     ensures { result ≡ is_symbol_byte byte }
 {
@@ -113,5 +122,5 @@ pub fn is_reserved(name: &[u8]) -> bool
         b"Int",
         b"Bool",
     ];
-    words.iter().any(|word| name == *word)
+    words.contains(&name)
 }
