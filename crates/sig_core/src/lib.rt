@@ -4,6 +4,8 @@
 mod ids;
 mod names;
 mod signature;
+#[cfg(test)]
+mod tests;
 mod text;
 mod value;
 
