@@ -1,6 +1,22 @@
-//! Open expressions over the slots of a rule, and their values.
+//! Open expressions over the slots of a rule: their sorts and their values.
+//!
+//! The operators are those of the theories Core and Ints of SMT-LIB 2.6, in this project's profile: a number has
+//! 128 bits, an operator out of range has no value, and every operator but `ite` wants a value of each operand.
 #![tactic(auto)]
 
+mod env;
 mod expr;
+mod laws;
+mod numbers;
+mod partial;
+mod sorts;
+mod table;
+mod value;
 
+pub use env::Env;
 pub use expr::{Expr, Kids, Op};
+pub use laws::{
+    division_exists, division_is_unique, nothing_by_zero, only_slots_count, reasons_are_of_nodes,
+    sorted_has_no_bad_node, values_have_sorts,
+};
+pub use sorts::SortFault;

@@ -2,13 +2,19 @@
 #![tactic(auto)]
 
 mod ids;
+mod names;
 mod signature;
+#[cfg(test)]
+mod tests;
+mod text;
 mod value;
 
 pub use ids::{ConId, RelId, TypeId, TypeIds};
 use items::Items;
-pub use signature::{Constructor, Kind, Param, Params, Relation, Signature};
-pub use value::{Sort, Value, Values};
+pub use names::NameTable;
+pub use signature::{Constructor, Kind, Param, Params, Relation, SigError, Signature};
+pub use text::{is_reserved, is_simple_symbol, is_symbol_byte, put_symbol, put_value};
+pub use value::{Sort, Value, Values, order};
 
 /// A list of bytes.
 pub type Bytes = Items<u8>;

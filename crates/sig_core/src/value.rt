@@ -1,4 +1,8 @@
+ghost use Rattle.std.specs.Prelude.{◌≡◌};
+ghost use Rattle.sig_core.specs.Orders.{value_cmp};
+
 use items::Items;
+use std::cmp::Ordering;
 
 /// The sort of a value.
 #[derive(Clone, Copy, Debug, PartialEq, Eq)]
@@ -15,3 +19,10 @@ pub enum Value {
 }
 
 pub type Values = Items<Value>;
+
+/// `left.cmp(&right)`, with its answer as an equation.
+pub fn order(left: Value, right: Value) -> Ordering
+    ensures { result ≡ value_cmp left right }
+{
+    left.cmp(&right)
+}

@@ -1,0 +1,18 @@
+-- The literal of a value, and a text that was written in part.
+use Rattle.std.specs.Prelude.{◌≡◌, ℕ, suc, ℤ, pos, negsuc, true, false, List, ◌++◌, codes, decimal}
+use Rattle.sig_core.specs.declared.value.Value.{Value}
+use Rattle.sig_core.specs.declared.value.Value.TheVariants as value
+
+-- a numeral, (- n) for a negative number, true or false
+abbrev pub literal_text : Value → List ℕ
+literal_text (value.Int (pos n)) = decimal n
+literal_text (value.Int (negsuc n)) = codes "(- " ++ decimal (suc n) ++ codes ")"
+literal_text (value.Bool true) = codes "true"
+literal_text (value.Bool false) = codes "false"
+
+-- `new` is `old` and after it a first part of `text`
+pub record IsPart (old new text : List ℕ) : Type 0 where
+  pub done : List ℕ
+  pub rest : List ℕ
+  pub grows : new ≡ old ++ done
+  pub splits : done ++ rest ≡ text
