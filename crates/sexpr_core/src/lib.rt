@@ -1,6 +1,12 @@
 //! S-expressions, after the lexicon of SMT-LIB 2.6.
 #![tactic(auto)]
 
+mod forest;
 mod form;
+mod lexicon;
+mod reading;
+mod token;
 
+pub use forest::Forest;
 pub use form::{Atom, Forms, Nest, Sexpr};
+pub use reading::read_whole;
