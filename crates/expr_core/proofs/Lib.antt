@@ -1,0 +1,10 @@
+pub mod Equations
+pub mod Induction
+pub mod Slots
+pub mod Division
+pub mod Neighbours
+pub mod Operands
+pub mod Distinctness
+pub mod Surveys
+pub mod Checks
+pub mod Sorted

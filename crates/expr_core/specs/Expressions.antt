@@ -21,19 +21,19 @@ branch_of (Some (value.Bool true)) x y = x
 branch_of (Some (value.Bool false)) x y = y
 branch_of _ x y = None
 
-abbrev pub chosen : List (Option Value) → Option Value
-chosen (c ∷ x ∷ y ∷ []) = branch_of c x y
-chosen _ = None
+abbrev pub choice : List (Option Value) → Option Value
+choice (c ∷ x ∷ y ∷ []) = branch_of c x y
+choice _ = None
 
 -- what an operator gives of its operands: nothing where one has no value, but for the branch that is not chosen
-abbrev pub operated : Op → List (Option Value) → Option Value
-operated Ite kids = chosen kids
-operated op kids = option_and_then (applied op) (all_some kids)
+abbrev pub operation : Op → List (Option Value) → Option Value
+operation Ite kids = choice kids
+operation op kids = option_and_then (applied op) (all_some kids)
 
 abbrev pub value_step : (ℕ → Option Value) → Expr-F (Option Value) → Option Value
 value_step look (Expr-F.Slot i) = look i
 value_step look (Expr-F.Lit v) = Some v
-value_step look (Expr-F.Apply op kids) = operated op kids
+value_step look (Expr-F.Apply op kids) = operation op kids
 
 -- the value of an expression where a slot has what `look` gives
 abbrev pub value_over : (ℕ → Option Value) → Expr → Option Value

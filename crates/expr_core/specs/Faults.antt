@@ -1,7 +1,6 @@
 -- Which nodes of an expression are bad. Nodes are numbered in pre-order, and their reasons by `SortFault`.
-use Rattle.std.specs.Prelude.{ℕ, suc, Bool, if◌then◌else◌, Option, Some, None, is_some, is_none, unwrap_or, List, [], ◌∷◌, ◌++◌, map, length, slice_get}
+use Rattle.std.specs.Prelude.{ℕ, suc, if◌then◌else◌, Option, Some, None, is_some, unwrap_or, List, [], ◌∷◌, ◌++◌, map, length, slice_get}
 use Rattle.std.specs.Option.{option_or}
-use Rattle.std.specs.List.{list_all}
 use Rattle.sig_core.specs.declared.value.Sort.{Sort}
 use Rattle.sig_core.specs.declared.value.Sort.TheVariants as sort
 use Rattle.expr_core.specs.declared.expr.Op.{Op}
@@ -10,7 +9,7 @@ use Rattle.expr_core.specs.declared.expr.Expr.TheOpen.{Expr-F}
 use Rattle.expr_core.specs.declared.expr.Expr.TheFolds.{fold-Expr}
 use Rattle.expr_core.specs.declared.sorts.SortFault.{SortFault}
 use Rattle.sig_core.specs.Values.{sort_of}
-use Rattle.expr_core.specs.Sorts.{takes, wanted, stated_result, is_wanted}
+use Rattle.expr_core.specs.Sorts.{takes, wanted_sort, stated_result, is_wanted}
 
 -- the sort that a node states, the reason by which it is bad by itself, and the reason of each node below it
 pub record Survey : Type 0 where
@@ -35,7 +34,7 @@ abbrev pub survey_of : Op → List Survey → Survey
 survey_of op kids = record {
   stated = stated_result op (map (λ kid. kid.stated) kids);
   own = (if takes op (length kids) then None else Some 2);
-  below = reasons_from (wanted op (map (λ kid. kid.stated) kids)) 0 kids;
+  below = reasons_from (wanted_sort op (map (λ kid. kid.stated) kids)) 0 kids;
 }
 
 -- a slot out of scope states Bool
@@ -48,8 +47,8 @@ abbrev pub survey : List Sort → Expr → Survey
 survey scope = fold-Expr Survey (survey_step scope)
 
 -- the sort that an expression states, also where nodes are bad
-abbrev pub stated : List Sort → Expr → Sort
-stated scope e = (survey scope e).stated
+abbrev pub stated_sort : List Sort → Expr → Sort
+stated_sort scope e = (survey scope e).stated
 
 -- for each node of an expression, in pre-order, the least reason by which it is bad
 abbrev pub reasons : List Sort → Expr → List (Option ℕ)

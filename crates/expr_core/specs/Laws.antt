@@ -1,6 +1,5 @@
 -- Laws of the definitions.
-use Rattle.std.specs.Prelude.{◌≡◌, ◌≢◌, ℕ, ◌+◌, ℤ, pos, Option, Some, None, is_none, if◌then◌else◌, List, Contains, length}
-use Rattle.std.specs.List.{list_all}
+use Rattle.std.specs.Prelude.{◌≡◌, ◌≢◌, ℕ, ℤ, pos, Option, Some, None, is_none, if◌then◌else◌, List, Contains, length}
 use Rattle.sig_core.specs.declared.value.Value.{Value}
 use Rattle.sig_core.specs.declared.value.Sort.{Sort}
 use Rattle.expr_core.specs.declared.expr.Expr.{Expr}
@@ -8,7 +7,7 @@ use Rattle.sig_core.specs.Values.{sort_of, ranged}
 use Rattle.std.specs.Prelude.{slice_get}
 use Rattle.expr_core.specs.Division.{IsDivision, quotient, remainder}
 use Rattle.expr_core.specs.Expressions.{value_over, sort_in, slots_in, node_count}
-use Rattle.expr_core.specs.Faults.{reasons, first_fault, stated}
+use Rattle.expr_core.specs.Faults.{reasons, first_fault, stated_sort}
 
 -- by a number other than 0 there is a quotient with a remainder
 abbrev pub DivisionExists : Type 0
@@ -34,7 +33,7 @@ ValuesHaveSorts = (e : Expr) (scope : List Sort) (look : ℕ → Option Value) (
 
 -- an expression has a sort exactly where no node is bad, and then that which it states
 abbrev pub SortedHasNoBadNode : Type 0
-SortedHasNoBadNode = (scope : List Sort) (e : Expr) → sort_in scope e ≡ (if is_none (first_fault scope e) then Some (stated scope e) else None)
+SortedHasNoBadNode = (scope : List Sort) (e : Expr) → sort_in scope e ≡ (if is_none (first_fault scope e) then Some (stated_sort scope e) else None)
 
 -- each node has one entry in the list of reasons
 abbrev pub ReasonsAreOfNodes : Type 0

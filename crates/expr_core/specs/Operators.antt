@@ -1,10 +1,9 @@
 -- What an operator gives of the values of its operands: nothing where it is not defined.
-use Rattle.std.specs.Prelude.{ℤ, pos, neg_ℤ, unsigned_abs, ◌+ℤ◌, ◌-ℤ◌, ◌*ℤ◌, int_lt, int_le, Bool, true, false, not, ◌&&◌, ◌||◌, if◌then◌else◌, Option, Some, None, option_map, option_and_then, List, [], ◌∷◌, map}
-use Rattle.std.specs.Bool.{xor}
+use Rattle.std.specs.Prelude.{ℤ, pos, neg_ℤ, unsigned_abs, ◌+ℤ◌, ◌-ℤ◌, ◌*ℤ◌, int_lt, int_le, Bool, true, not, ◌&&◌, ◌||◌, if◌then◌else◌, Option, Some, None, option_map, option_and_then, List, [], ◌∷◌, map}
+use Rattle.std.specs.Bool.{beq}
 use Rattle.std.specs.List.{list_all}
 use Rattle.sig_core.specs.declared.value.Value.{Value}
 use Rattle.sig_core.specs.declared.value.Value.TheVariants as value
-use Rattle.sig_core.specs.declared.value.Sort.{Sort}
 use Rattle.expr_core.specs.declared.expr.Op.{Op}
 use Rattle.expr_core.specs.declared.expr.Op.TheVariants.{Not, And, Or, Xor, Implies, Equal, Distinct, Ite, Add, Minus, Times, Div, Mod, Abs, Less, AtMost, Greater, AtLeast}
 use Rattle.sig_core.specs.Lists.{all_some, chained}
@@ -21,14 +20,14 @@ bool_of (value.Int n) = None
 bool_of (value.Bool b) = Some b
 
 -- x and the operands after it, taken together two at a time from the left
-abbrev pub left_from : {X : Type 0} → (X → X → Option X) → X → List X → Option X
-left_from f x [] = Some x
-left_from f x (y ∷ ys) = option_and_then (λ z. left_from f z ys) (f x y)
+abbrev pub left_fold_from : {X : Type 0} → (X → X → Option X) → X → List X → Option X
+left_fold_from f x [] = Some x
+left_fold_from f x (y ∷ ys) = option_and_then (λ z. left_fold_from f z ys) (f x y)
 
 -- the same of one or more operands
-abbrev pub left : {X : Type 0} → (X → X → Option X) → List X → Option X
-left f [] = None
-left f (x ∷ xs) = left_from f x xs
+abbrev pub left_fold : {X : Type 0} → (X → X → Option X) → List X → Option X
+left_fold f [] = None
+left_fold f (x ∷ xs) = left_fold_from f x xs
 
 abbrev pub two_or_more : {X Y : Type 0} → (List X → Option Y) → List X → Option Y
 two_or_more f (x ∷ y ∷ xs) = f (x ∷ y ∷ xs)
@@ -47,18 +46,18 @@ product m n = ranged (m *ℤ n)
 -- of one operand its negation, of more the differences from the left
 abbrev pub minus : List ℤ → Option ℤ
 minus (m ∷ []) = ranged (neg_ℤ m)
-minus ms = left difference ms
+minus ms = left_fold difference ms
 
 -- to the right: the first implies what the others give
-abbrev pub implied : List Bool → Bool
-implied [] = true
-implied (b ∷ []) = b
-implied (b ∷ c ∷ bs) = not b || implied (c ∷ bs)
+abbrev pub implication : List Bool → Bool
+implication [] = true
+implication (b ∷ []) = b
+implication (b ∷ c ∷ bs) = not b || implication (c ∷ bs)
 
 -- no two are equal
-abbrev pub distinct : List Value → Bool
-distinct [] = true
-distinct (v ∷ vs) = list_all (λ w. not (same_value v w)) vs && distinct vs
+abbrev pub are_distinct : List Value → Bool
+are_distinct [] = true
+are_distinct (v ∷ vs) = list_all (λ w. not (same_value v w)) vs && are_distinct vs
 
 -- all have the sort of the first
 abbrev pub one_sort : List Value → Bool
@@ -80,40 +79,40 @@ bools_to_bool f vs = option_map value.Bool (option_and_then f (all_some (map boo
 abbrev pub values_to_bool : (List Value → Bool) → List Value → Option Value
 values_to_bool p vs = option_map value.Bool (two_or_more (λ ws. if one_sort ws then Some (p ws) else None) vs)
 
-abbrev pub remaining : List Value → Option Value
-remaining (value.Int m ∷ value.Int n ∷ []) = option_map value.Int (remainder m n)
-remaining _ = None
+abbrev pub modulus : List Value → Option Value
+modulus (value.Int m ∷ value.Int n ∷ []) = option_map value.Int (remainder m n)
+modulus _ = None
 
-abbrev pub absolute : List Value → Option Value
-absolute (value.Int m ∷ []) = option_map value.Int (ranged (pos (unsigned_abs m)))
-absolute _ = None
+abbrev pub absolute_value : List Value → Option Value
+absolute_value (value.Int m ∷ []) = option_map value.Int (ranged (pos (unsigned_abs m)))
+absolute_value _ = None
 
-abbrev pub negated : List Value → Option Value
-negated (value.Bool b ∷ []) = Some (value.Bool (not b))
-negated _ = None
+abbrev pub negation : List Value → Option Value
+negation (value.Bool b ∷ []) = Some (value.Bool (not b))
+negation _ = None
 
 -- the second operand if the first is true, else the third
-abbrev pub branch : List Value → Option Value
-branch (value.Bool c ∷ v ∷ w ∷ []) = if same_sort (sort_of v) (sort_of w) then Some (if c then v else w) else None
-branch _ = None
+abbrev pub conditional : List Value → Option Value
+conditional (value.Bool c ∷ v ∷ w ∷ []) = if same_sort (sort_of v) (sort_of w) then Some (if c then v else w) else None
+conditional _ = None
 
 -- the operators of the theories Core and Ints of SMT-LIB 2.6. That a number has 128 bits, that a result or a partial
 -- result out of range is none, and that `and`, `or`, `+` and `*` take a single operand too, are this project's own
 abbrev pub applied : Op → List Value → Option Value
-applied Not = negated
-applied And = bools_to_bool (left (λ a b. Some (a && b)))
-applied Or = bools_to_bool (left (λ a b. Some (a || b)))
-applied Xor = bools_to_bool (two_or_more (left (λ a b. Some (xor a b))))
-applied Implies = bools_to_bool (two_or_more (λ bs. Some (implied bs)))
+applied Not = negation
+applied And = bools_to_bool (left_fold (λ a b. Some (a && b)))
+applied Or = bools_to_bool (left_fold (λ a b. Some (a || b)))
+applied Xor = bools_to_bool (two_or_more (left_fold (λ a b. Some (not (beq a b)))))
+applied Implies = bools_to_bool (two_or_more (λ bs. Some (implication bs)))
 applied Equal = values_to_bool (chained same_value)
-applied Distinct = values_to_bool distinct
-applied Ite = branch
-applied Add = ints_to_int (left sum_of)
+applied Distinct = values_to_bool are_distinct
+applied Ite = conditional
+applied Add = ints_to_int (left_fold sum_of)
 applied Minus = ints_to_int minus
-applied Times = ints_to_int (left product)
-applied Div = ints_to_int (two_or_more (left quotient))
-applied Mod = remaining
-applied Abs = absolute
+applied Times = ints_to_int (left_fold product)
+applied Div = ints_to_int (two_or_more (left_fold quotient))
+applied Mod = modulus
+applied Abs = absolute_value
 applied Less = ints_to_bool int_lt
 applied AtMost = ints_to_bool int_le
 applied Greater = ints_to_bool (λ m n. int_lt n m)

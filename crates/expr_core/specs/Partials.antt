@@ -1,17 +1,17 @@
 -- What an operator gives of more operands, from what it has made of the first ones.
-use Rattle.std.specs.Prelude.{◌≡◌, ℤ, int_lt, int_le, Bool, true, false, not, ◌&&◌, ◌||◌, if◌then◌else◌, Option, Some, None, option_map, option_and_then, List, [], ◌∷◌, map}
-use Rattle.std.specs.Bool.{xor}
+use Rattle.std.specs.Prelude.{ℤ, int_lt, int_le, Bool, not, ◌&&◌, ◌||◌, if◌then◌else◌, Option, Some, None, option_map, option_and_then, List, [], ◌∷◌, map}
+use Rattle.std.specs.Bool.{beq}
 use Rattle.std.specs.List.{list_all}
 use Rattle.sig_core.specs.declared.value.Value.{Value}
 use Rattle.sig_core.specs.declared.value.Value.TheVariants as value
 use Rattle.expr_core.specs.declared.expr.Op.{Op}
-use Rattle.expr_core.specs.declared.expr.Op.TheVariants.{And, Or, Xor, Implies, Equal, Add, Minus, Times, Div, Mod, Less, AtMost, Greater, AtLeast}
+use Rattle.expr_core.specs.declared.expr.Op.TheVariants.{And, Or, Xor, Equal, Add, Minus, Times, Div, Less, AtMost, Greater, AtLeast}
 use Rattle.expr_core.specs.declared.partial.Partial.{Partial}
 use Rattle.expr_core.specs.declared.partial.Partial.TheVariants as partial
 use Rattle.sig_core.specs.Lists.{all_some}
 use Rattle.sig_core.specs.Values.{sort_of, same_sort, same_value}
 use Rattle.expr_core.specs.Division.{quotient}
-use Rattle.expr_core.specs.Operators.{applied, int_of, bool_of, left_from, sum_of, difference, product, implied, remaining}
+use Rattle.expr_core.specs.Operators.{int_of, bool_of, left_fold_from, sum_of, difference, product, implication, modulus}
 
 -- the operators that are folded from the left
 abbrev pub of_two_numbers : Op → ℤ → ℤ → Option ℤ
@@ -24,7 +24,7 @@ of_two_numbers _ = λ m n. None
 abbrev pub of_two_truths : Op → Bool → Bool → Option Bool
 of_two_truths And = λ a b. Some (a && b)
 of_two_truths Or = λ a b. Some (a || b)
-of_two_truths Xor = λ a b. Some (xor a b)
+of_two_truths Xor = λ a b. Some (not (beq a b))
 of_two_truths _ = λ a b. None
 
 -- the operators that relate each operand to the next
@@ -37,13 +37,13 @@ of_neighbours Equal v w = if same_sort (sort_of v) (sort_of w) then Some (same_v
 of_neighbours _ _ _ = None
 
 abbrev pub numbers_after : Op → ℤ → List Value → Option Value
-numbers_after op m vs = option_map value.Int (option_and_then (left_from (of_two_numbers op) m) (all_some (map int_of vs)))
+numbers_after op m vs = option_map value.Int (option_and_then (left_fold_from (of_two_numbers op) m) (all_some (map int_of vs)))
 
 abbrev pub truths_after : Op → Bool → List Value → Option Value
-truths_after op b vs = option_map value.Bool (option_and_then (left_from (of_two_truths op) b) (all_some (map bool_of vs)))
+truths_after op b vs = option_map value.Bool (option_and_then (left_fold_from (of_two_truths op) b) (all_some (map bool_of vs)))
 
 abbrev pub premises_after : Bool → Bool → List Value → Option Value
-premises_after refuted b vs = option_map (λ bs. value.Bool (refuted || implied (b ∷ bs))) (all_some (map bool_of vs))
+premises_after refuted b vs = option_map (λ bs. value.Bool (refuted || implication (b ∷ bs))) (all_some (map bool_of vs))
 
 abbrev pub neighbours_after : Op → Bool → Value → List Value → Option Value
 neighbours_after op holds v [] = Some (value.Bool holds)
@@ -54,18 +54,18 @@ nothing_after v [] = Some v
 nothing_after v _ = None
 
 -- what the operator gives, where these operands follow
-abbrev pub continued : Op → Partial → List Value → Option Value
-continued op (partial.Number m) vs = numbers_after op m vs
-continued op (partial.Truth b) vs = truths_after op b vs
-continued op (partial.Premises refuted last) vs = premises_after refuted last vs
-continued op (partial.Neighbours holds last) vs = neighbours_after op holds last vs
-continued op (partial.Dividend m) vs = remaining (value.Int m ∷ vs)
-continued op (partial.Whole v) vs = nothing_after v vs
+abbrev pub value_after : Op → Partial → List Value → Option Value
+value_after op (partial.Number m) vs = numbers_after op m vs
+value_after op (partial.Truth b) vs = truths_after op b vs
+value_after op (partial.Premises refuted last) vs = premises_after refuted last vs
+value_after op (partial.Neighbours holds last) vs = neighbours_after op holds last vs
+value_after op (partial.Dividend m) vs = modulus (value.Int m ∷ vs)
+value_after op (partial.Whole v) vs = nothing_after v vs
 
 -- two values of one sort are not equal
-abbrev pub different : Value → Value → Option Bool
-different v w = if same_sort (sort_of v) (sort_of w) then Some (not (same_value v w)) else None
+abbrev pub differs_from : Value → Value → Option Bool
+differs_from v w = if same_sort (sort_of v) (sort_of w) then Some (not (same_value v w)) else None
 
 -- a value is equal to none of those of its sort
-abbrev pub differing : Value → List Value → Option Bool
-differing v vs = if list_all (λ w. same_sort (sort_of v) (sort_of w)) vs then Some (list_all (λ w. not (same_value v w)) vs) else None
+abbrev pub differs_from_all : Value → List Value → Option Bool
+differs_from_all v vs = if list_all (λ w. same_sort (sort_of v) (sort_of w)) vs then Some (list_all (λ w. not (same_value v w)) vs) else None

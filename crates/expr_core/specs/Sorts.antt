@@ -1,5 +1,5 @@
 -- How many operands an operator takes, of which sorts, and the sort of its result.
-use Rattle.std.specs.Prelude.{ℕ, zero, suc, Bool, true, false, ◌&&◌, nat_eq, nat_le, if◌then◌else◌, Option, Some, None, unwrap_or, List, [], ◌∷◌, length, slice_get}
+use Rattle.std.specs.Prelude.{ℕ, zero, suc, Bool, true, ◌&&◌, nat_eq, nat_le, if◌then◌else◌, Option, Some, None, unwrap_or, List, [], ◌∷◌, length, slice_get}
 use Rattle.sig_core.specs.declared.value.Sort.{Sort}
 use Rattle.sig_core.specs.declared.value.Sort.TheVariants as sort
 use Rattle.expr_core.specs.declared.expr.Op.{Op}
@@ -28,30 +28,30 @@ takes Greater n = nat_le 2 n
 takes AtLeast n = nat_le 2 n
 
 -- the sort that a conditional wants of its operand k: of the branches that of the first branch
-abbrev pub wanted_of_branch : List Sort → ℕ → Option Sort
-wanted_of_branch sorts zero = Some sort.Bool
-wanted_of_branch sorts (suc k) = slice_get sorts 1
+abbrev pub sort_of_branch : List Sort → ℕ → Option Sort
+sort_of_branch sorts zero = Some sort.Bool
+sort_of_branch sorts (suc k) = slice_get sorts 1
 
 -- the sort that the operator wants of its operand k, where its operands have these sorts
-abbrev pub wanted : Op → List Sort → ℕ → Option Sort
-wanted Not sorts k = Some sort.Bool
-wanted And sorts k = Some sort.Bool
-wanted Or sorts k = Some sort.Bool
-wanted Xor sorts k = Some sort.Bool
-wanted Implies sorts k = Some sort.Bool
-wanted Equal sorts k = slice_get sorts 0
-wanted Distinct sorts k = slice_get sorts 0
-wanted Ite sorts k = wanted_of_branch sorts k
-wanted Add sorts k = Some sort.Int
-wanted Minus sorts k = Some sort.Int
-wanted Times sorts k = Some sort.Int
-wanted Div sorts k = Some sort.Int
-wanted Mod sorts k = Some sort.Int
-wanted Abs sorts k = Some sort.Int
-wanted Less sorts k = Some sort.Int
-wanted AtMost sorts k = Some sort.Int
-wanted Greater sorts k = Some sort.Int
-wanted AtLeast sorts k = Some sort.Int
+abbrev pub wanted_sort : Op → List Sort → ℕ → Option Sort
+wanted_sort Not sorts k = Some sort.Bool
+wanted_sort And sorts k = Some sort.Bool
+wanted_sort Or sorts k = Some sort.Bool
+wanted_sort Xor sorts k = Some sort.Bool
+wanted_sort Implies sorts k = Some sort.Bool
+wanted_sort Equal sorts k = slice_get sorts 0
+wanted_sort Distinct sorts k = slice_get sorts 0
+wanted_sort Ite sorts k = sort_of_branch sorts k
+wanted_sort Add sorts k = Some sort.Int
+wanted_sort Minus sorts k = Some sort.Int
+wanted_sort Times sorts k = Some sort.Int
+wanted_sort Div sorts k = Some sort.Int
+wanted_sort Mod sorts k = Some sort.Int
+wanted_sort Abs sorts k = Some sort.Int
+wanted_sort Less sorts k = Some sort.Int
+wanted_sort AtMost sorts k = Some sort.Int
+wanted_sort Greater sorts k = Some sort.Int
+wanted_sort AtLeast sorts k = Some sort.Int
 
 -- the sort that the operator states of its result, where its operands have these sorts
 abbrev pub stated_result : Op → List Sort → Sort
@@ -80,10 +80,10 @@ is_wanted None s = true
 is_wanted (Some t) s = same_sort t s
 
 -- each of the sorts is the wanted one, where the first is that of operand k
-abbrev pub all_wanted : (ℕ → Option Sort) → ℕ → List Sort → Bool
-all_wanted want k [] = true
-all_wanted want k (s ∷ ss) = is_wanted (want k) s && all_wanted want (suc k) ss
+abbrev pub are_wanted : (ℕ → Option Sort) → ℕ → List Sort → Bool
+are_wanted want k [] = true
+are_wanted want k (s ∷ ss) = is_wanted (want k) s && are_wanted want (suc k) ss
 
 -- the sort of an operator's result, if its operands are as many and of the sorts that it wants
 abbrev pub result_sort : Op → List Sort → Option Sort
-result_sort op sorts = if takes op (length sorts) && all_wanted (wanted op sorts) 0 sorts then Some (stated_result op sorts) else None
+result_sort op sorts = if takes op (length sorts) && are_wanted (wanted_sort op sorts) 0 sorts then Some (stated_result op sorts) else None

@@ -8,6 +8,7 @@ mod env;
 mod expr;
 mod laws;
 mod numbers;
+mod pairs;
 mod partial;
 mod sorts;
 mod table;

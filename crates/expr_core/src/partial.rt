@@ -1,7 +1,7 @@
 ghost use Rattle.std.specs.Prelude.{◌≡◌, ◌≢◌, List, [], ◌∷◌, option_and_then};
 ghost use Rattle.sig_core.specs.declared.value.Value.{Value};
 ghost use Rattle.expr_core.specs.Operators.{applied};
-ghost use Rattle.expr_core.specs.Partials.{continued, of_neighbours, of_two_numbers, of_two_truths};
+ghost use Rattle.expr_core.specs.Partials.{value_after, of_neighbours, of_two_numbers, of_two_truths};
 ghost use Rattle.expr_core.specs.declared.expr.Op.TheVariants as variant;
 
 use crate::expr::Op;
@@ -11,22 +11,22 @@ use sig_core::Value;
 /// What an operator has made of its first operands.
 #[derive(Clone, Copy, Debug)]
 pub(crate) enum Partial {
-    /// the fold so far
+    /// of the operators on numbers that are folded from the left
     Number(i128),
-    /// the fold so far
+    /// of those on truth values
     Truth(bool),
-    /// whether a premise before the last operand is false, and the last operand
-    Premises(bool, bool),
-    /// whether each operand is so related to the next, and the last operand
-    Neighbours(bool, Value),
-    /// the first operand of `mod`
+    /// of `=>`: whether a premise before the last operand is false
+    Premises { refuted: bool, last: bool },
+    /// of `=` and the comparisons: whether each operand is so related to the next
+    Neighbours { holds: bool, last: Value },
+    /// of `mod`, its first operand
     Dividend(i128),
-    /// the value of an operator that takes no more operands
+    /// the value, where no more operands are taken
     Whole(Value),
 }
 
 /// What the operator gives of a single operand.
-pub(crate) fn alone(op: Op, value: Value) -> Option<Value>
+pub(crate) fn of_single(op: Op, value: Value) -> Option<Value>
     ensures { result ≡ applied op (value ∷ []) }
 {
     match (op, value) {
@@ -39,28 +39,48 @@ pub(crate) fn alone(op: Op, value: Value) -> Option<Value>
 }
 
 /// What the operator makes of the first of two or more operands.
-pub(crate) fn opened(op: Op, first: Value) -> Option<Partial>
+pub(crate) fn start(op: Op, first: Value) -> Option<Partial>
     requires strict { op ≢ variant.Ite }
     requires pairwise { op ≢ variant.Distinct }
-    ensures { (second : Value) (more : List Value) → applied op (first ∷ second ∷ more) ≡ option_and_then (λ made. continued op made (second ∷ more)) result }
+    ensures { (second : Value) (more : List Value) → applied op (first ∷ second ∷ more) ≡ option_and_then (λ made. value_after op made (second ∷ more)) result }
 {
     match (op, first) {
         (Op::Add | Op::Minus | Op::Times | Op::Div, Value::Int(number)) => {
             Some(Partial::Number(number))
         }
         (Op::And | Op::Or | Op::Xor, Value::Bool(truth)) => Some(Partial::Truth(truth)),
-        (Op::Implies, Value::Bool(truth)) => Some(Partial::Premises(false, truth)),
-        (Op::Less | Op::AtMost | Op::Greater | Op::AtLeast, Value::Int(_)) | (Op::Equal, _) => {
-            Some(Partial::Neighbours(true, first))
-        }
+        (Op::Implies, Value::Bool(truth)) => Some(Partial::Premises {
+            refuted: false,
+            last: truth,
+        }),
+        (Op::Less, Value::Int(_)) => Some(Partial::Neighbours {
+            holds: true,
+            last: first,
+        }),
+        (Op::AtMost, Value::Int(_)) => Some(Partial::Neighbours {
+            holds: true,
+            last: first,
+        }),
+        (Op::Greater, Value::Int(_)) => Some(Partial::Neighbours {
+            holds: true,
+            last: first,
+        }),
+        (Op::AtLeast, Value::Int(_)) => Some(Partial::Neighbours {
+            holds: true,
+            last: first,
+        }),
+        (Op::Equal, _) => Some(Partial::Neighbours {
+            holds: true,
+            last: first,
+        }),
         (Op::Mod, Value::Int(number)) => Some(Partial::Dividend(number)),
         _ => None,
     }
 }
 
 /// What the operator makes of one operand more.
-pub(crate) fn taken(op: Op, made: Partial, value: Value) -> Option<Partial>
-    ensures { (more : List Value) → continued op made (value ∷ more) ≡ option_and_then (λ next. continued op next more) result }
+pub(crate) fn advance(op: Op, made: Partial, value: Value) -> Option<Partial>
+    ensures { (more : List Value) → value_after op made (value ∷ more) ≡ option_and_then (λ next. value_after op next more) result }
 {
     match (made, value) {
         (Partial::Number(left), Value::Int(right)) => {
@@ -69,12 +89,18 @@ pub(crate) fn taken(op: Op, made: Partial, value: Value) -> Option<Partial>
         (Partial::Truth(left), Value::Bool(right)) => {
             of_two_truths(op, left, right).map(Partial::Truth)
         }
-        (Partial::Premises(refuted, last), Value::Bool(truth)) => {
-            Some(Partial::Premises(refuted | !last, truth))
+        (Partial::Premises { refuted, last }, Value::Bool(truth)) => {
+            Some(Partial::Premises {
+                refuted: refuted | !last,
+                last: truth,
+            })
         }
-        (Partial::Neighbours(holds, last), _) => {
+        (Partial::Neighbours { holds, last }, _) => {
             let related = of_neighbours(op, last, value)?;
-            Some(Partial::Neighbours(holds & related, value))
+            Some(Partial::Neighbours {
+                holds: holds & related,
+                last: value,
+            })
         }
         (Partial::Dividend(dividend), Value::Int(divisor)) => {
             let rest = remainder(dividend, divisor)?;
@@ -85,14 +111,14 @@ pub(crate) fn taken(op: Op, made: Partial, value: Value) -> Option<Partial>
 }
 
 /// What the operator gives where no operand follows.
-pub(crate) fn closed(op: Op, made: Partial) -> Option<Value>
-    ensures { result ≡ continued op made [] }
+pub(crate) fn finish(op: Op, made: Partial) -> Option<Value>
+    ensures { result ≡ value_after op made [] }
 {
     match made {
         Partial::Number(number) => Some(Value::Int(number)),
         Partial::Truth(truth) => Some(Value::Bool(truth)),
-        Partial::Premises(refuted, last) => Some(Value::Bool(refuted | last)),
-        Partial::Neighbours(holds, _) => Some(Value::Bool(holds)),
+        Partial::Premises { refuted, last } => Some(Value::Bool(refuted | last)),
+        Partial::Neighbours { holds, last: _ } => Some(Value::Bool(holds)),
         Partial::Dividend(_) => None,
         Partial::Whole(value) => Some(value),
     }

@@ -1,10 +1,8 @@
-ghost use Rattle.std.specs.Prelude.{◌≡◌, ◌≢◌, ◌+◌, ◌<◌, ◌^◌, IfOk, List, map, slice_get};
-ghost use Rattle.sig_core.specs.declared.value.Sort.{Sort as SortOf};
-ghost use Rattle.expr_core.specs.declared.expr.Op.TheVariants as variant;
+ghost use Rattle.std.specs.Prelude.{◌≡◌, ◌+◌, ◌<◌, ◌^◌, IfOk, map, slice_get};
 ghost use Rattle.std.specs.Result.{result_err, result_ok};
-ghost use Rattle.expr_core.specs.Sorts.{is_wanted, stated_result, wanted};
+ghost use Rattle.expr_core.specs.Sorts.{is_wanted, stated_result, wanted_sort};
 ghost use Rattle.expr_core.specs.Expressions.{node_count, sort_in};
-ghost use Rattle.expr_core.specs.Faults.{first_fault, first_fault_from, reason_in, reasons_in, stated, survey};
+ghost use Rattle.expr_core.specs.Faults.{first_fault, first_fault_from, reason_in, reasons_in, stated_sort, survey};
 
 use crate::expr::{Expr, Op};
 use crate::table::takes;
@@ -50,22 +48,34 @@ fn check(expr: &Expr, wanted: Option<Sort>, scope: &[Sort], node: u32) -> Result
     if let Expr::Apply(op, kids) = expr {
         let kids = kids.as_slice();
         for i in 0..kids.len() {
-            next = check(&kids[i], wanted_of(*op, kids, scope, i), scope, next)?;
+            next = check(&kids[i], wanted_sort(*op, kids, scope, i), scope, next)?;
         }
     }
     Ok(next)
 }
 
-/// The least reason by which the node itself is bad.
+/// The least reason by which the node itself is bad, where its parent wants this sort.
 fn reason_at(expr: &Expr, wanted: Option<Sort>, scope: &[Sort]) -> Option<u8>
     ensures { result ≡ reason_in wanted (survey scope.now expr.now) }
 {
-    match expr {
-        Expr::Slot(slot) if usize::from(*slot) >= scope.len() => return Some(1),
-        Expr::Apply(op, kids) if !takes(*op, kids.len()) => return Some(2),
-        _ => {}
+    match own_reason(expr, scope) {
+        Some(reason) => Some(reason),
+        None if is_wanted(wanted, stated_sort(expr, scope)) => None,
+        None => Some(3),
     }
-    if is_wanted(wanted, stated_sort(expr, scope)) { None } else { Some(3) }
+}
+
+/// The reason by which the node is bad whatever its parent wants.
+fn own_reason(expr: &Expr, scope: &[Sort]) -> Option<u8>
+    ensures { result ≡ (survey scope.now expr.now).own }
+{
+    match expr {
+        Expr::Slot(slot) if usize::from(*slot) < scope.len() => None,
+        Expr::Slot(_) => Some(1),
+        Expr::Lit(_) => None,
+        Expr::Apply(op, kids) if takes(*op, kids.len()) => None,
+        Expr::Apply(_, _) => Some(2),
+    }
 }
 
 fn is_wanted(wanted: Option<Sort>, sort: Sort) -> bool
@@ -78,8 +88,8 @@ fn is_wanted(wanted: Option<Sort>, sort: Sort) -> bool
 }
 
 /// The sort that the operator wants of the operand at this place.
-fn wanted_of(op: Op, kids: &[Expr], scope: &[Sort], place: usize) -> Option<Sort>
-    ensures { result ≡ wanted op (map (stated scope.now) kids.now) place }
+fn wanted_sort(op: Op, kids: &[Expr], scope: &[Sort], place: usize) -> Option<Sort>
+    ensures { result ≡ wanted_sort op (map (stated_sort scope.now) kids.now) place }
 {
     match op {
         Op::Not | Op::And | Op::Or | Op::Xor | Op::Implies => Some(Sort::Bool),
@@ -100,7 +110,7 @@ fn wanted_of(op: Op, kids: &[Expr], scope: &[Sort], place: usize) -> Option<Sort
 }
 
 fn stated_at(kids: &[Expr], scope: &[Sort], place: usize) -> Option<Sort>
-    ensures { result ≡ slice_get (map (stated scope.now) kids.now) place }
+    ensures { result ≡ slice_get (map (stated_sort scope.now) kids.now) place }
 {
     match at(kids, place) {
         Some(kid) => Some(stated_sort(kid, scope)),
@@ -108,28 +118,38 @@ fn stated_at(kids: &[Expr], scope: &[Sort], place: usize) -> Option<Sort>
     }
 }
 
+#[cycle(stated)]
 fn stated_sort(expr: &Expr, scope: &[Sort]) -> Sort
-    ensures { result ≡ stated scope.now expr.now }
+    ensures { result ≡ stated_sort scope.now expr.now }
 {
     match expr {
         Expr::Slot(slot) => at(scope, usize::from(*slot)).copied().unwrap_or(Sort::Bool),
         Expr::Lit(Value::Int(_)) => Sort::Int,
         Expr::Lit(Value::Bool(_)) => Sort::Bool,
-        Expr::Apply(Op::Ite, kids) => match kids.as_slice() {
-            [_, second, ..] => stated_sort(second, scope),
-            _ => Sort::Bool,
-        },
-        Expr::Apply(op, _) => result_of(*op),
+        Expr::Apply(op, kids) => stated_result(*op, kids.as_slice(), scope),
     }
 }
 
-/// The sort of the operator's result, but for `ite`.
-fn result_of(op: Op) -> Sort
-    requires { op ≢ variant.Ite }
-    ensures { (sorts : List SortOf) → result ≡ stated_result op sorts }
+#[cycle(stated)]
+fn stated_result(op: Op, kids: &[Expr], scope: &[Sort]) -> Sort
+    ensures { result ≡ stated_result op (map (stated_sort scope.now) kids.now) }
 {
     match op {
+        Op::Ite => match kids {
+            [_, second, ..] => stated_sort(second, scope),
+            _ => Sort::Bool,
+        },
         Op::Add | Op::Minus | Op::Times | Op::Div | Op::Mod | Op::Abs => Sort::Int,
-        _ => Sort::Bool,
+        Op::Not
+        | Op::And
+        | Op::Or
+        | Op::Xor
+        | Op::Implies
+        | Op::Equal
+        | Op::Distinct
+        | Op::Less
+        | Op::AtMost
+        | Op::Greater
+        | Op::AtLeast => Sort::Bool,
     }
 }

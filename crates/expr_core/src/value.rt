@@ -1,15 +1,19 @@
-ghost use Rattle.std.specs.Prelude.{◌≡◌, ◌≢◌, ℕ, Option, map, option_and_then, slice_get};
+ghost use Rattle.std.specs.Prelude.{◌≡◌, ◌≢◌, ◌≤◌, ℕ, Option, drop, length, map, option_and_then, slice_get};
 ghost use Rattle.sig_core.specs.Lists.{all_some};
 ghost use Rattle.expr_core.specs.declared.expr.Op.TheVariants as variant;
 ghost use Rattle.expr_core.specs.Operators.{applied};
-ghost use Rattle.expr_core.specs.Partials.{different, differing};
-ghost use Rattle.expr_core.specs.Expressions.{chosen, look, value_of, value_over};
+ghost use Rattle.expr_core.specs.Partials.{differs_from_all};
+ghost use Rattle.expr_core.specs.Expressions.{choice, look, value_of, value_over};
 
 use crate::env::Env;
 use crate::expr::{Expr, Op};
-use crate::partial::{alone, closed, opened, taken};
+use crate::pairs::{all_different, different};
+use crate::partial::{advance, finish, of_single, start};
 use items::at;
 use sig_core::Value;
+
+/// How many values of its operands `distinct` keeps.
+const KEPT: usize = 16;
 
 /// Where the values of slots come from.
 trait Slots {
@@ -40,8 +44,9 @@ impl Slots for &[Value] {
 impl Expr {
     /// The value over the slots that are filled. An empty slot, or one that the environment doesn't have, has no value.
     ///
-    /// Every operand of an operator is evaluated once, in order, but for `ite`, which evaluates its condition and the
-    /// branch that it chooses, and for `distinct`, which evaluates an operand again for each operand before it.
+    /// No memory is taken. The operands of an operator are evaluated once, in order, but for two: `ite` evaluates its
+    /// condition and the branch that it chooses, and `distinct` of more than 16 operands evaluates each operand again
+    /// for each one before it, so that the time doubles and more with each such `distinct` that stands in another.
     pub fn value(&self, env: &Env) -> Option<Value>
         ensures { result ≡ value_over (look env.now) self.now }
     {
@@ -63,15 +68,15 @@ fn value_at<S: Slots>(expr: &Expr, slots: &S) -> Option<Value>
     match expr {
         Expr::Slot(slot) => slots.slot(*slot),
         Expr::Lit(value) => Some(*value),
-        Expr::Apply(Op::Ite, kids) => branch(kids.as_slice(), slots),
+        Expr::Apply(Op::Ite, kids) => conditional(kids.as_slice(), slots),
         Expr::Apply(Op::Distinct, kids) => distinct(kids.as_slice(), slots),
-        Expr::Apply(op, kids) => folded(*op, kids.as_slice(), slots),
+        Expr::Apply(op, kids) => fold(*op, kids.as_slice(), slots),
     }
 }
 
 #[cycle(value)]
-fn branch<S: Slots>(kids: &[Expr], slots: &S) -> Option<Value>
-    ensures { result ≡ chosen (map (value_over (S.gives slots.now)) kids.now) }
+fn conditional<S: Slots>(kids: &[Expr], slots: &S) -> Option<Value>
+    ensures { result ≡ choice (map (value_over (S.gives slots.now)) kids.now) }
 {
     let [condition, then, other] = kids else {
         return None;
@@ -84,7 +89,7 @@ fn branch<S: Slots>(kids: &[Expr], slots: &S) -> Option<Value>
 }
 
 #[cycle(value)]
-fn folded<S: Slots>(op: Op, kids: &[Expr], slots: &S) -> Option<Value>
+fn fold<S: Slots>(op: Op, kids: &[Expr], slots: &S) -> Option<Value>
     requires strict { op ≢ variant.Ite }
     requires pairwise { op ≢ variant.Distinct }
     ensures { result ≡ option_and_then (applied op) (all_some (map (value_over (S.gives slots.now)) kids.now)) }
@@ -94,49 +99,53 @@ fn folded<S: Slots>(op: Op, kids: &[Expr], slots: &S) -> Option<Value>
     };
     let value = value_at(first, slots)?;
     if rest.is_empty() {
-        return alone(op, value);
+        return of_single(op, value);
     }
-    let mut made = opened(op, value)?;
+    let mut made = start(op, value)?;
     for kid in rest {
-        made = taken(op, made, value_at(kid, slots)?)?;
+        made = advance(op, made, value_at(kid, slots)?)?;
     }
-    closed(op, made)
+    finish(op, made)
 }
 
 #[cycle(value)]
 fn distinct<S: Slots>(kids: &[Expr], slots: &S) -> Option<Value>
     ensures { result ≡ option_and_then (applied variant.Distinct) (all_some (map (value_over (S.gives slots.now)) kids.now)) }
 {
-    if kids.len() < 2 {
-        return None;
+    if kids.len() > KEPT {
+        return distinct_of_many(kids, slots);
     }
+    let mut values = [Value::Bool(false); KEPT];
+    for i in 0..kids.len() {
+        values[i] = value_at(&kids[i], slots)?;
+    }
+    all_different(&values[..kids.len()])
+}
+
+/// The same of two or more operands, where no value is kept.
+#[cycle(value)]
+fn distinct_of_many<S: Slots>(kids: &[Expr], slots: &S) -> Option<Value>
+    requires { 2 ≤ length kids.now }
+    ensures { result ≡ option_and_then (applied variant.Distinct) (all_some (map (value_over (S.gives slots.now)) kids.now)) }
+{
     let mut differ = true;
     for i in 0..kids.len() {
         let value = value_at(&kids[i], slots)?;
-        differ = differs(value, &kids[i + 1..], slots)? & differ;
+        differ = differs(value, kids, i + 1, slots)? & differ;
     }
     Some(Value::Bool(differ))
 }
 
-/// Whether the value is equal to no operand's, where each operand has a value of its sort.
+/// Whether the value is equal to none of the operands from this place on, where each has a value of its sort.
 #[cycle(value)]
-fn differs<S: Slots>(value: Value, kids: &[Expr], slots: &S) -> Option<bool>
-    ensures { result ≡ option_and_then (differing value) (all_some (map (value_over (S.gives slots.now)) kids.now)) }
+fn differs<S: Slots>(value: Value, kids: &[Expr], from: usize, slots: &S) -> Option<bool>
+    requires { from ≤ length kids.now }
+    ensures { result ≡ option_and_then (differs_from_all value) (all_some (map (value_over (S.gives slots.now)) (drop from kids.now))) }
 {
     let mut differs = true;
-    for kid in kids {
-        differs = different(value, value_at(kid, slots)?)? & differs;
+    for j in from..kids.len() {
+        let other = value_at(&kids[j], slots)?;
+        differs = different(value, other)? & differs;
     }
     Some(differs)
-}
-
-/// Whether two values of one sort are different.
-fn different(left: Value, right: Value) -> Option<bool>
-    ensures { result ≡ different left right }
-{
-    match (left, right) {
-        (Value::Int(m), Value::Int(n)) => Some(m != n),
-        (Value::Bool(a), Value::Bool(b)) => Some(a != b),
-        _ => None,
-    }
 }

@@ -1,6 +1,8 @@
 //! Grammars of terms, and membership.
 #![tactic(auto)]
 
-mod grammar;
+mod ids;
+mod production;
 
-pub use grammar::{NtId, NtIds, Production};
+pub use ids::{NtId, NtIds};
+pub use production::{Nonterminal, Production};

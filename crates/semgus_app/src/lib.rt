@@ -2,9 +2,12 @@
 #![tactic(auto)]
 
 mod command;
+mod first;
 mod judge;
+mod problem;
 mod program;
 mod read;
+mod shape;
 mod status;
 
 pub use program::run;

@@ -1,0 +1,7 @@
+pub mod Bytes
+pub mod Tokens
+pub mod Words
+pub mod Steps
+pub mod Once
+pub mod Completing
+pub mod Readings

@@ -1,0 +1,3 @@
+pub mod Lexicon
+pub mod Reading
+pub mod Spelling

@@ -5,8 +5,10 @@ mod forest;
 mod form;
 mod lexicon;
 mod reading;
+#[cfg(test)]
+mod tests;
 mod token;
 
 pub use forest::Forest;
 pub use form::{Atom, Forms, Nest, Sexpr};
-pub use reading::read_whole;
+pub use reading::{one_spelling, read_whole};

@@ -1,9 +1,12 @@
-ghost use Rattle.std.specs.Prelude.{◌≤◌, ◌<◌, ◌^◌, length, IfOk};
-ghost use Rattle.std.specs.Option.{IfSome};
+ghost use Rattle.std.specs.Prelude.{◌≡◌, ◌≢◌, ℕ, slice_index, IsFalse, ◌≤◌, ◌<◌, ◌^◌, [], ◌∷◌, ◌++◌, List, length, IfOk, MatchOption};
+ghost use Rattle.std.specs.Bool.{MatchBool};
+ghost use Rattle.sexpr_core.specs.declared.form.Sexpr.{Sexpr};
+ghost use Rattle.sexpr_core.specs.Lexicon.{is_blank, IsPlain};
+ghost use Rattle.sexpr_core.specs.Spelling.{Spell};
 
 use crate::forest::Forest;
 use crate::form::{Forms, Nest, Sexpr};
-use crate::lexicon::is_plain;
+use crate::lexicon::{has_unread, is_blank};
 use crate::token::first_token;
 use items::Items;
 use std::alloc::{AllocError, Global};
@@ -23,31 +26,46 @@ struct Opened {
 /// of them, or since the text began.
 #[derive(Drop)]
 struct Reading {
-    open: Items<Opened>,
+    opened: Items<Opened>,
     forms: Forms,
+    ghost within: { length opened ≤ 200 },
 }
 
 impl Reading {
-    fn new(alloc: Global) -> Reading {
+    ghost use Rattle.sexpr_core.specs.declared.reading.Opened.{Opened};
+    ghost use Rattle.sexpr_core.specs.Reading.{closed, Steps};
+
+    fn new(alloc: Global) -> Reading
+        ensures opened { result.opened ≡ [] }
+        ensures forms { result.forms ≡ [] }
+    {
         Reading {
-            open: Items::new(alloc),
+            opened: Items::new(alloc),
             forms: Forms::new(alloc),
         }
     }
 
     /// Opens a list. False where that would be one level too deep.
-    fn open(&mut self, alloc: Global, place: u32) -> Result<bool, AllocError> {
-        if self.open.len() == DEEPEST {
+    fn open(&mut self, alloc: Global, place: u32) -> Result<bool, AllocError>
+        ensures { IfOk result (λ is_read. MatchBool is_read
+            ((length self.old.opened < 200) × (self.new.opened ≡ self.old.opened ++ record { place = place; before = self.old.forms } ∷ []) × (self.new.forms ≡ []))
+            (length self.old.opened ≡ 200)) }
+    {
+        if self.opened.len() == DEEPEST {
             return Ok(false);
         }
         let before = mem::replace(&mut self.forms, Forms::new(alloc));
-        self.open.push(Opened { place, before })?;
+        self.opened.push(Opened { place, before })?;
         Ok(true)
     }
 
     /// Closes the innermost open list. False where none is open.
-    fn close(&mut self) -> Result<bool, AllocError> {
-        let Some(Opened { place, before }) = self.open.pop() else {
+    fn close(&mut self) -> Result<bool, AllocError>
+        ensures { IfOk result (λ is_read. MatchBool is_read
+            ((outer : Opened) × (self.old.opened ≡ self.new.opened ++ outer ∷ []) × (self.new.forms ≡ closed outer self.old.forms))
+            (self.old.opened ≡ [])) }
+    {
+        let Some(Opened { place, before }) = self.opened.pop() else {
             return Ok(false);
         };
         let items = mem::replace(&mut self.forms, before);
@@ -55,32 +73,48 @@ impl Reading {
         Ok(true)
     }
 
+    /// Reads the token at `at`, and answers where it ends. None where none stands there.
+    fn token(&mut self, alloc: Global, text: &[u8], at: usize) -> Result<Option<usize>, AllocError>
+        requires within { at < length text.now }
+        requires size { length text.now < 2 ^ 32 }
+        requires plain { IsPlain text.now }
+        requires not_blank { IsFalse (is_blank (slice_index text.now at)) }
+        requires not_open { slice_index text.now at ≢ 40 }
+        requires not_close { slice_index text.now at ≢ 41 }
+        ensures { IfOk result (Steps self.old self.new text.now at) }
+    {
+        let Some(token) = first_token(alloc, &text[at..], at as u32)? else {
+            return Ok(None);
+        };
+        self.forms.push(token.form)?;
+        Ok(Some(at + token.size))
+    }
+
     /// Reads the blank, the parenthesis or the token at `at`, and answers where it ends. None where no spelling
     /// goes on so.
     fn step(&mut self, alloc: Global, text: &[u8], at: usize) -> Result<Option<usize>, AllocError>
         requires within { at < length text.now }
         requires size { length text.now < 2 ^ 32 }
-        ensures { IfOk result (λ next. IfSome next (λ end. (at < end) × (end ≤ length text.now))) }
+        requires plain { IsPlain text.now }
+        ensures { IfOk result (Steps self.old self.new text.now at) }
     {
-        let place = at as u32;
-        let is_read = match text[at] {
-            b'\t' | b'\n' | b'\r' | b' ' => true,
-            b'(' => self.open(alloc, place)?,
-            b')' => self.close()?,
-            _ => {
-                let Some(token) = first_token(alloc, &text[at..], place)? else {
-                    return Ok(None);
-                };
-                self.forms.push(token.form)?;
-                return Ok(Some(at + token.size));
-            }
-        };
-        Ok(if is_read { Some(at + 1) } else { None })
+        let byte = text[at];
+        if is_blank(byte) {
+            Ok(Some(at + 1))
+        } else if byte == b'(' {
+            Ok(self.open(alloc, at as u32)?.then_some(at + 1))
+        } else if byte == b')' {
+            Ok(self.close()?.then_some(at + 1))
+        } else {
+            self.token(alloc, text, at)
+        }
     }
 
     /// The forms of the text, if it ends here.
-    fn finish(self) -> Option<Forest> {
-        if self.open.is_empty() {
+    fn finish(self) -> Option<Forest>
+        ensures { MatchOption result (self.opened ≢ []) (λ forest. (self.opened ≡ []) × (forest ≡ self.forms)) }
+    {
+        if self.opened.is_empty() {
             Some(Forest::of(self.forms))
         } else {
             None
@@ -93,8 +127,11 @@ impl Reading {
 /// read yet.
 pub fn read_whole(alloc: Global, text: &[u8]) -> Result<Option<Forest>, AllocError>
     requires { length text.now < 2 ^ 32 }
+    ensures { IfOk result (λ found. MatchOption found
+        ((forms : List Sexpr) → Spell text.now forms → ¬ IsPlain text.now)
+        (λ forest. Spell text.now forest × IsPlain text.now)) }
 {
-    if !is_plain(text) {
+    if has_unread(text) {
         return Ok(None);
     }
     let mut reading = Reading::new(alloc);
@@ -107,3 +144,8 @@ pub fn read_whole(alloc: Global, text: &[u8]) -> Result<Option<Forest>, AllocErr
     }
     Ok(reading.finish())
 }
+
+/// A text spells one list of forms at most.
+pub fn one_spelling()
+    ensures { (text : List ℕ) (forms others : List Sexpr) → Spell text forms → Spell text others → forms ≡ others }
+{}

@@ -1,5 +1,7 @@
-ghost use Rattle.std.specs.Prelude.{◌≤◌, ◌<◌, ◌+◌, ◌^◌, length, IfOk};
-ghost use Rattle.std.specs.Option.{IfSome};
+ghost use Rattle.std.specs.Prelude.{◌≡◌, ◌==◌, ◌≤◌, ◌<◌, ◌^◌, ◌∷◌, length, take, drop, IfOk, MatchOption};
+ghost use Rattle.sexpr_core.specs.declared.form.Atom.{Atom};
+ghost use Rattle.sexpr_core.specs.Lexicon.{EndsBefore, IsPlain};
+ghost use Rattle.sexpr_core.specs.Spelling.{IsToken, HasNoToken};
 
 use crate::form::{Atom, Sexpr};
 use crate::lexicon::{first_word, is_numeral, is_simple_symbol};
@@ -13,7 +15,9 @@ pub(crate) struct Token {
     pub(crate) size: usize,
 }
 
-fn atom(alloc: Global, place: u32, contents: &[u8]) -> Result<Atom, AllocError> {
+fn atom(alloc: Global, place: u32, contents: &[u8]) -> Result<Atom, AllocError>
+    ensures { IfOk result (λ made. made ≡ record { place = place; bytes = contents.now }) }
+{
     let mut bytes = Bytes::new(alloc);
     bytes.append(contents)?;
     Ok(Atom { place, bytes })
@@ -25,27 +29,42 @@ pub(crate) fn first_token(
     bytes: &[u8],
     place: u32,
 ) -> Result<Option<Token>, AllocError>
-    ensures { IfOk result (λ found. IfSome found (λ token. (0 < token.size) × (token.size ≤ length bytes.now))) }
+    requires plain { IsPlain bytes.now }
+    requires size { length bytes.now < 2 ^ 32 }
+    ensures { IfOk result (λ found. MatchOption found (HasNoToken place bytes.now)
+        (λ token. (0 < token.size) × (token.size ≤ length bytes.now) × IsToken place (drop token.size bytes.now) (take token.size bytes.now) token.form)) }
 {
-    if let [b':', rest @ ..] = bytes {
-        return keyword(alloc, rest, place);
+    match bytes {
+        [b':', rest @ ..] => keyword(alloc, rest, place),
+        _ => word(alloc, bytes, place),
     }
+}
+
+/// The simple symbol or the numeral that the bytes begin with, if any.
+fn word(alloc: Global, bytes: &[u8], place: u32) -> Result<Option<Token>, AllocError>
+    requires plain { IsPlain bytes.now }
+    requires no_keyword { EndsBefore (λ byte. byte == 58) bytes.now }
+    ensures { IfOk result (λ found. MatchOption found (HasNoToken place bytes.now)
+        (λ token. (0 < token.size) × (token.size ≤ length bytes.now) × IsToken place (drop token.size bytes.now) (take token.size bytes.now) token.form)) }
+{
     let word = first_word(bytes);
-    let form = if is_simple_symbol(word) {
-        Sexpr::Symbol(atom(alloc, place, word)?)
-    } else if is_numeral(word) {
-        Sexpr::Numeral(atom(alloc, place, word)?)
-    } else {
-        return Ok(None);
-    };
     let size = word.len();
-    Ok(Some(Token { form, size }))
+    if is_simple_symbol(word) {
+        let form = Sexpr::Symbol(atom(alloc, place, word)?);
+        return Ok(Some(Token { form, size }));
+    }
+    if is_numeral(word) {
+        let form = Sexpr::Numeral(atom(alloc, place, word)?);
+        return Ok(Some(Token { form, size }));
+    }
+    Ok(None)
 }
 
 /// The keyword whose colon stands at `place`, before the bytes.
 fn keyword(alloc: Global, bytes: &[u8], place: u32) -> Result<Option<Token>, AllocError>
-    requires { length bytes.now < 2 ^ 63 }
-    ensures { IfOk result (λ found. IfSome found (λ token. (0 < token.size) × (token.size ≤ 1 + length bytes.now))) }
+    requires { length bytes.now < 2 ^ 32 }
+    ensures { IfOk result (λ found. MatchOption found (HasNoToken place (58 ∷ bytes.now))
+        (λ token. (0 < token.size) × (token.size ≤ length (58 ∷ bytes.now)) × IsToken place (drop token.size (58 ∷ bytes.now)) (take token.size (58 ∷ bytes.now)) token.form)) }
 {
     let word = first_word(bytes);
     if !is_simple_symbol(word) {

@@ -1,0 +1,11 @@
+pub mod Induction
+pub mod Order
+pub mod Parts
+pub mod Compare
+pub mod Growth
+pub mod Marking
+pub mod Sorting
+pub mod OneList
+pub mod Trees
+pub mod NodeReads
+pub mod IdEq

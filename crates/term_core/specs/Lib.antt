@@ -1,1 +1,5 @@
+pub mod Banks
+pub mod Laws
+pub mod Marks
+pub mod Nodes
 pub mod Terms

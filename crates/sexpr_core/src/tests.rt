@@ -1,0 +1,136 @@
+use crate::{Atom, Forest, Sexpr, read_whole};
+use sig_core::Bytes;
+use std::alloc::{AllocError, Global};
+use std::fmt::Write;
+use std::process::Abort;
+use std::test::Fail;
+
+/// A kind, a place and, after `=`, the bytes.
+fn show_atom(kind: char, atom: &Atom, out: &mut String) -> Result<(), AllocError> {
+    let place = atom.place;
+    write!(out, "{kind}{place}=")?;
+    for byte in atom.bytes.as_slice() {
+        out.push(char::from(*byte))?;
+    }
+    out.push(' ')
+}
+
+fn show(form: &Sexpr, out: &mut String) -> Result<(), AllocError> {
+    match form {
+        Sexpr::Symbol(atom) => show_atom('s', atom, out)?,
+        Sexpr::Numeral(atom) => show_atom('n', atom, out)?,
+        Sexpr::Text(atom) => show_atom('t', atom, out)?,
+        Sexpr::Keyword(atom) => show_atom('k', atom, out)?,
+        Sexpr::List(nest) => {
+            let place = nest.place;
+            write!(out, "({place} ")?;
+            for item in nest.items.as_slice() {
+                show(item, out)?;
+            }
+            out.push_str(") ")?;
+        }
+    }
+    Ok(())
+}
+
+/// The forms that the text spells, shown. `none` where it isn't a spelling.
+fn reading(rt: &impl Abort, alloc: Global, text: &[u8]) -> Result<String, AllocError> {
+    assert!(rt; text.len() < 1000);
+    let mut out = String::new(alloc);
+    let Some(forest) = read_whole(alloc, text)? else {
+        out.push_str("none")?;
+        return Ok(out);
+    };
+    for k in 0..forest.len() {
+        let Some(form) = forest.get(k) else {
+            break;
+        };
+        show(form, &mut out)?;
+    }
+    Ok(out)
+}
+
+#[test]
+fn reads_spellings(rt: HostRuntime) -> Result<(), Fail> {
+    let cases = [
+        ("", ""),
+        (" \t\r\n", ""),
+        ("abc", "s0=abc "),
+        ("0", "n0=0 "),
+        ("(12)", "(0 n1=12 ) "),
+        ("\t\r\n a", "s4=a "),
+        ("(a (b 12) :k)\n0", "(0 s1=a (3 s4=b n6=12 ) k10=k ) n14=0 "),
+        ("a:b:c", "s0=a k1=b k3=c "),
+        ("-1 x1()", "s0=-1 s3=x1 (5 ) "),
+        ("~!@$%^&*_-+=<>.?/Zz9", "s0=~!@$%^&*_-+=<>.?/Zz9 "),
+        ("90 9", "n0=90 n3=9 "),
+        ("((x)y)z", "(0 (1 s2=x ) s4=y ) s6=z "),
+    ];
+    for (text, want) in cases {
+        let read = reading(&rt, rt.alloc(), text.as_bytes())?;
+        assert_eq!(rt; read.as_str(), want, "at {text}");
+    }
+    Ok(())
+}
+
+#[test]
+fn refuses_what_is_no_spelling(rt: HostRuntime) -> Result<(), Fail> {
+    let cases = [
+        ")", "a)", "(", "(()", "00", "01", "12a", "0a", "1+", "(1-)", ":", ":1", ": a", "a :",
+        "\u{1}", "a\u{7f}", "é", "[", "{", "'", ",", "#x0", "\\", "a;b", "|a|", "\"a\"",
+    ];
+    for text in cases {
+        let read = reading(&rt, rt.alloc(), text.as_bytes())?;
+        assert_eq!(rt; read.as_str(), "none", "at {text}");
+    }
+    Ok(())
+}
+
+/// So many opening parentheses, and as many closing ones.
+fn nested(alloc: Global, levels: usize) -> Result<Bytes, AllocError> {
+    let mut text = Bytes::new(alloc);
+    for _ in 0..levels {
+        text.push(b'(')?;
+    }
+    for _ in 0..levels {
+        text.push(b')')?;
+    }
+    Ok(text)
+}
+
+#[test]
+fn lists_nest_200_deep(rt: HostRuntime) -> Result<(), Fail> {
+    let deepest = nested(rt.alloc(), 200)?;
+    assert_ne!(rt;
+        reading(&rt, rt.alloc(), deepest.as_slice())?.as_str(),
+        "none"
+    );
+    let deeper = nested(rt.alloc(), 201)?;
+    assert_eq!(rt;
+        reading(&rt, rt.alloc(), deeper.as_slice())?.as_str(),
+        "none"
+    );
+    Ok(())
+}
+
+#[test]
+fn forests_give_their_forms_in_order(rt: HostRuntime) -> Result<(), Fail> {
+    let mut forest = Forest::new(rt.alloc());
+    assert!(rt; forest.take_first().is_none());
+    for place in 0..3 {
+        let bytes = Bytes::new(rt.alloc());
+        forest.push(Sexpr::Symbol(Atom { place, bytes }))?;
+    }
+    assert_eq!(rt; forest.len(), 3);
+    assert!(rt; matches!(forest.get(2), Some(Sexpr::Symbol(Atom { place: 2, .. }))));
+    assert!(rt; forest.get(3).is_none());
+    assert!(rt;
+        matches!(
+            &forest.take_first(),
+            Some(Sexpr::Symbol(Atom { place: 0, .. }))
+        )
+    );
+    assert_eq!(rt; forest.len(), 2);
+    assert!(rt; matches!(forest.get(0), Some(Sexpr::Symbol(Atom { place: 1, .. }))));
+    Ok(())
+}

@@ -1,0 +1,72 @@
+use Rattle.std.proofs.Common.{◌≡◌, ◌+◌, ◌<◌, ◌^◌, [], ◌∷◌, ◌++◌, map, sum, length, get_or, All, Contains, List, sym, ap, subst, ◌∙◌, arith, rules}
+use Rattle.std.proofs.lemmas.List.{get_or_default, get_or_push, length_push}
+use Rattle.std.proofs.lemmas.List.Elements.{All-weaker, All-same}
+use Rattle.term_core.specs.declared.ids.TermId.{TermId}
+use Rattle.term_core.specs.declared.node.Node.{Node}
+use Rattle.term_core.specs.declared.tree.Tree.{Tree}
+use Rattle.term_core.specs.Banks.{tree_of, leaf}
+use Rattle.term_core.specs.Nodes.{HasNode, IsBank, term_over, trees_of}
+use Rattle.term_core.specs.Terms.{node, size}
+use Rattle.term_core.proofs.Growth.{Grown, grown}
+use Rattle.term_core.proofs.NodeReads.{live_in, live_read, found_live, found_term, found_there}
+use Rattle.term_core.proofs.Order.{size-node}
+use Rattle.term_core.proofs.Trees.{length-trees_of, term_at, trees_of-push}
+use Rattle.term_core.proofs.bank.Bank.intern.Goals as goal
+use Rattle.term_core.proofs.bank.Bank.intern.Goals.{In_ok-push}
+
+pub returns-in-Some-clause-live : goal.returns-in-Some-clause-live
+returns-in-Some-clause-live c = found_live _ _ _ c.self.invariant c.self.view_is c.as_slice.ensures c.args.con c.args.kids.now _ c.in-Some.ensures.0 c.in-Some.ensures.1
+
+pub returns-in-Some-clause-tree : goal.returns-in-Some-clause-tree
+returns-in-Some-clause-tree c = found_term _ _ _ c.self.invariant c.self.view_is c.as_slice.ensures c.args.con c.args.kids.now _ c.in-Some.ensures.0 c.in-Some.ensures.1
+
+pub returns-in-Some-clause-fresh : goal.returns-in-Some-clause-fresh
+returns-in-Some-clause-fresh c =
+    λ absent. absurd (absent (found_there _ _ _ c.self.invariant c.self.view_is c.as_slice.ensures c.args.con c.args.kids.now _ c.in-Some.ensures.0 c.in-Some.ensures.1))
+
+pub size_over-size-requires-clause-live : goal.size_over-size-requires-clause-live
+size_over-size-requires-clause-live c = λ k d h. live_read _ _ _ c.self.view_is c.as_slice-2.ensures _ (c.requires.live k d h)
+
+pub size_over-size-requires-clause-small : goal.size_over-size-requires-clause-small
+size_over-size-requires-clause-small c =
+    rw (c.as_slice-2.ensures, c.self.view_is) (subst (λ n. n < 2 ^ 32) (size-node c.args.con (map (tree_of c.args.self.now) c.args.kids.now)) c.requires.small)
+
+-- the bank after the push
+after : (c : In_ok-push) → Grown c.self.inside.nodes c.push.new.self c.args.con c.args.kids.now
+after c =
+    grown _ _ _ _ c.args.con c.args.kids.now _ _ _ c.self.invariant c.as_slice.ensures c.as_slice-2.ensures (λ k d h. live_in _ _ c.self.view_is _ (c.requires.live k d h)) c.in_default.ensures c.new-own.ensures
+    c.in_ok-append.ensures.ok c.size_over-size.ensures c.in_ok-push.ensures.ok
+
+-- the term that was put last
+abbrev put_last : In_ok-push → Tree
+put_last c = node c.args.con (map (tree_of c.args.self.now) c.args.kids.now)
+
+trees_after : (c : In_ok-push) → trees_of c.push.new.self ≡ c.args.self.now ++ put_last c ∷ []
+trees_after c = (after c).trees ∙ ap (λ ts. ts ++ node c.args.con (map (tree_of ts) c.args.kids.now) ∷ []) c.self.view_is
+
+count : (c : In_ok-push) → length c.args.self.now ≡ c.len.result
+count c = omega (arith, ap length c.self.view_is, c.len.ensures, length-trees_of c.self.inside.nodes)
+
+pub invariant_of-self-2 : goal.invariant_of-self-2
+invariant_of-self-2 c = (after c).bank
+
+pub returns-clause-live : goal.returns-clause-live
+returns-clause-live c =
+    let p = (goal.at.returns-clause-live c).In_ok-push in
+    omega (arith, ap length (trees_after p), length_push p.args.self.now (put_last p), count p)
+
+pub returns-clause-tree : goal.returns-clause-tree
+returns-clause-tree c =
+    let p = (goal.at.returns-clause-tree c).In_ok-push in
+    ap (λ ts. tree_of ts (record { 0 = p.len.result })) (trees_after p) ∙ get_or_push p.args.self.now (put_last p) leaf p.len.result (count p)
+
+pub returns-clause-known : goal.returns-clause-known
+returns-clause-known c =
+    let p = (goal.at.returns-clause-known c).In_ok-push in
+    λ there. absurd ((after p).absent (subst (λ ts. Contains ts (node p.args.con (map (tree_of ts) p.args.kids.now))) (sym p.self.view_is) there))
+
+pub returns-clause-fresh : goal.returns-clause-fresh
+returns-clause-fresh c = λ absent. trees_after (goal.at.returns-clause-fresh c).In_ok-push
+
+pub returns-clause-each_once : goal.returns-clause-each_once
+returns-clause-each_once c = (after (goal.at.returns-clause-each_once c).In_ok-push).bank.each_once
