@@ -1,5 +1,5 @@
 -- The value and the sort of an expression.
-use Rattle.std.specs.Prelude.{ℕ, ◌+◌, true, false, Option, Some, None, option_and_then, List, [], ◌∷◌, slice_get, sum}
+use Rattle.std.specs.Prelude.{ℕ, ◌+◌, true, false, Option, Some, None, option_and_then, List, [], ◌∷◌, map, slice_get, sum}
 use Rattle.std.specs.Option.{option_flatten}
 use Rattle.std.specs.List.{flat_map}
 use Rattle.sig_core.specs.declared.value.Value.{Value}
@@ -21,6 +21,7 @@ branch_of (Some (value.Bool true)) x y = x
 branch_of (Some (value.Bool false)) x y = y
 branch_of _ x y = None
 
+-- the value of `ite`: its condition and the branch that it chooses have one
 abbrev pub choice : List (Option Value) → Option Value
 choice (c ∷ x ∷ y ∷ []) = branch_of c x y
 choice _ = None
@@ -30,6 +31,7 @@ abbrev pub operation : Op → List (Option Value) → Option Value
 operation Ite kids = choice kids
 operation op kids = option_and_then (applied op) (all_some kids)
 
+-- a slot has what `look` gives, and a literal its own value
 abbrev pub value_step : (ℕ → Option Value) → Expr-F (Option Value) → Option Value
 value_step look (Expr-F.Slot i) = look i
 value_step look (Expr-F.Lit v) = Some v
@@ -39,6 +41,10 @@ value_step look (Expr-F.Apply op kids) = operation op kids
 abbrev pub value_over : (ℕ → Option Value) → Expr → Option Value
 value_over look = fold-Expr (Option Value) (value_step look)
 
+-- the values of expressions, if each has one
+abbrev pub values_over : (ℕ → Option Value) → List Expr → Option (List Value)
+values_over look es = all_some (map (value_over look) es)
+
 -- the value of an expression over the values of its slots
 abbrev pub value_of : List Value → Expr → Option Value
 value_of slots = value_over (slice_get slots)
@@ -47,6 +53,7 @@ value_of slots = value_over (slice_get slots)
 abbrev pub look : List (Option Value) → ℕ → Option Value
 look slots i = option_flatten (slice_get slots i)
 
+-- a slot has the sort of the scope, and a literal its own
 abbrev pub sort_step : List Sort → Expr-F (Option Sort) → Option Sort
 sort_step scope (Expr-F.Slot i) = slice_get scope i
 sort_step scope (Expr-F.Lit v) = Some (sort_of v)
@@ -56,6 +63,7 @@ sort_step scope (Expr-F.Apply op kids) = option_and_then (result_sort op) (all_s
 abbrev pub sort_in : List Sort → Expr → Option Sort
 sort_in scope = fold-Expr (Option Sort) (sort_step scope)
 
+-- a slot itself, and those of all operands
 abbrev pub slots_step : Expr-F (List ℕ) → List ℕ
 slots_step (Expr-F.Slot i) = i ∷ []
 slots_step (Expr-F.Lit v) = []
@@ -65,6 +73,7 @@ slots_step (Expr-F.Apply op kids) = flat_map (λ is. is) kids
 abbrev pub slots_in : Expr → List ℕ
 slots_in = fold-Expr (List ℕ) slots_step
 
+-- the node itself, and those of its operands
 abbrev pub count_step : Expr-F ℕ → ℕ
 count_step (Expr-F.Slot i) = 1
 count_step (Expr-F.Lit v) = 1

@@ -30,6 +30,7 @@ abbrev pub reasons_from : (ℕ → Option Sort) → ℕ → List Survey → List
 reasons_from want k [] = []
 reasons_from want k (node ∷ nodes) = reasons_in (want k) node ++ reasons_from want (suc k) nodes
 
+-- an operator, by the surveys of its operands
 abbrev pub survey_of : Op → List Survey → Survey
 survey_of op kids = record {
   stated = stated_result op (map (λ kid. kid.stated) kids);
@@ -39,10 +40,15 @@ survey_of op kids = record {
 
 -- a slot out of scope states Bool
 abbrev pub survey_step : List Sort → Expr-F Survey → Survey
-survey_step scope (Expr-F.Slot i) = record { stated = unwrap_or (slice_get scope i) sort.Bool; own = (if is_some (slice_get scope i) then None else Some 1); below = [] }
+survey_step scope (Expr-F.Slot i) = record {
+  stated = unwrap_or (slice_get scope i) sort.Bool;
+  own = (if is_some (slice_get scope i) then None else Some 1);
+  below = [];
+}
 survey_step scope (Expr-F.Lit v) = record { stated = sort_of v; own = None; below = [] }
 survey_step scope (Expr-F.Apply op kids) = survey_of op kids
 
+-- what there is to know of the nodes of an expression
 abbrev pub survey : List Sort → Expr → Survey
 survey scope = fold-Expr Survey (survey_step scope)
 

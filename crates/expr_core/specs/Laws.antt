@@ -1,12 +1,11 @@
 -- Laws of the definitions.
-use Rattle.std.specs.Prelude.{◌≡◌, ◌≢◌, ℕ, ℤ, pos, Option, Some, None, is_none, if◌then◌else◌, List, Contains, length}
+use Rattle.std.specs.Prelude.{◌≡◌, ◌≢◌, ℕ, ℤ, pos, Option, Some, None, is_none, if◌then◌else◌, List, Contains, length, nat_eq, slice_get, slice_set, ◌<◌}
 use Rattle.sig_core.specs.declared.value.Value.{Value}
 use Rattle.sig_core.specs.declared.value.Sort.{Sort}
 use Rattle.expr_core.specs.declared.expr.Expr.{Expr}
 use Rattle.sig_core.specs.Values.{sort_of, ranged}
-use Rattle.std.specs.Prelude.{slice_get}
 use Rattle.expr_core.specs.Division.{IsDivision, quotient, remainder}
-use Rattle.expr_core.specs.Expressions.{value_over, sort_in, slots_in, node_count}
+use Rattle.expr_core.specs.Expressions.{value_over, look, sort_in, slots_in, node_count}
 use Rattle.expr_core.specs.Faults.{reasons, first_fault, stated_sort}
 
 -- by a number other than 0 there is a quotient with a remainder
@@ -38,3 +37,7 @@ SortedHasNoBadNode = (scope : List Sort) (e : Expr) → sort_in scope e ≡ (if 
 -- each node has one entry in the list of reasons
 abbrev pub ReasonsAreOfNodes : Type 0
 ReasonsAreOfNodes = (scope : List Sort) (e : Expr) → length (reasons scope e) ≡ node_count e
+
+-- a slot has what was put in it last, and the others what they had
+abbrev pub SlotsKeepValues : Type 0
+SlotsKeepValues = (slots : List (Option Value)) (i j : ℕ) (v : Option Value) → i < length slots → look (slice_set slots i v) j ≡ (if nat_eq i j then v else look slots j)

@@ -10,11 +10,12 @@ use Rattle.sig_core.specs.Lists.{all_some, chained}
 use Rattle.sig_core.specs.Values.{sort_of, same_sort, same_value, ranged}
 use Rattle.expr_core.specs.Division.{quotient, remainder}
 
--- the number or the truth value that a value is
+-- the number that a value is
 abbrev pub int_of : Value → Option ℤ
 int_of (value.Int n) = Some n
 int_of (value.Bool b) = None
 
+-- the truth value that a value is
 abbrev pub bool_of : Value → Option Bool
 bool_of (value.Int n) = None
 bool_of (value.Bool b) = Some b
@@ -29,11 +30,12 @@ abbrev pub left_fold : {X : Type 0} → (X → X → Option X) → List X → Op
 left_fold f [] = None
 left_fold f (x ∷ xs) = left_fold_from f x xs
 
+-- f of two or more operands alone
 abbrev pub two_or_more : {X Y : Type 0} → (List X → Option Y) → List X → Option Y
 two_or_more f (x ∷ y ∷ xs) = f (x ∷ y ∷ xs)
 two_or_more f _ = None
 
--- sums, differences and products, if they are in range
+-- the sum, the difference and the product of two numbers, if it is in range
 abbrev pub sum_of : ℤ → ℤ → Option ℤ
 sum_of m n = ranged (m +ℤ n)
 
@@ -79,14 +81,17 @@ bools_to_bool f vs = option_map value.Bool (option_and_then f (all_some (map boo
 abbrev pub values_to_bool : (List Value → Bool) → List Value → Option Value
 values_to_bool p vs = option_map value.Bool (two_or_more (λ ws. if one_sort ws then Some (p ws) else None) vs)
 
+-- of two numbers the remainder
 abbrev pub modulus : List Value → Option Value
 modulus (value.Int m ∷ value.Int n ∷ []) = option_map value.Int (remainder m n)
 modulus _ = None
 
+-- of one number
 abbrev pub absolute_value : List Value → Option Value
 absolute_value (value.Int m ∷ []) = option_map value.Int (ranged (pos (unsigned_abs m)))
 absolute_value _ = None
 
+-- of one truth value
 abbrev pub negation : List Value → Option Value
 negation (value.Bool b ∷ []) = Some (value.Bool (not b))
 negation _ = None

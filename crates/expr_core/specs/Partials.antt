@@ -13,7 +13,7 @@ use Rattle.sig_core.specs.Values.{sort_of, same_sort, same_value}
 use Rattle.expr_core.specs.Division.{quotient}
 use Rattle.expr_core.specs.Operators.{int_of, bool_of, left_fold_from, sum_of, difference, product, implication, modulus}
 
--- the operators that are folded from the left
+-- the operators on numbers that are folded from the left
 abbrev pub of_two_numbers : Op → ℤ → ℤ → Option ℤ
 of_two_numbers Add = sum_of
 of_two_numbers Minus = difference
@@ -21,6 +21,7 @@ of_two_numbers Times = product
 of_two_numbers Div = quotient
 of_two_numbers _ = λ m n. None
 
+-- and those on truth values
 abbrev pub of_two_truths : Op → Bool → Bool → Option Bool
 of_two_truths And = λ a b. Some (a && b)
 of_two_truths Or = λ a b. Some (a || b)
@@ -36,19 +37,24 @@ of_neighbours AtLeast (value.Int m) (value.Int n) = Some (int_le n m)
 of_neighbours Equal v w = if same_sort (sort_of v) (sort_of w) then Some (same_value v w) else None
 of_neighbours _ _ _ = None
 
+-- the fold of numbers from m on
 abbrev pub numbers_after : Op → ℤ → List Value → Option Value
 numbers_after op m vs = option_map value.Int (option_and_then (left_fold_from (of_two_numbers op) m) (all_some (map int_of vs)))
 
+-- the fold of truth values from b on
 abbrev pub truths_after : Op → Bool → List Value → Option Value
 truths_after op b vs = option_map value.Bool (option_and_then (left_fold_from (of_two_truths op) b) (all_some (map bool_of vs)))
 
+-- b implies what follows, or a premise before it is false
 abbrev pub premises_after : Bool → Bool → List Value → Option Value
 premises_after refuted b vs = option_map (λ bs. value.Bool (refuted || implication (b ∷ bs))) (all_some (map bool_of vs))
 
+-- v is related to the next operand, that to its next, and so on, and those before are so related
 abbrev pub neighbours_after : Op → Bool → Value → List Value → Option Value
 neighbours_after op holds v [] = Some (value.Bool holds)
 neighbours_after op holds v (w ∷ vs) = option_and_then (λ b. neighbours_after op (holds && b) w vs) (of_neighbours op v w)
 
+-- v, if no operand follows
 abbrev pub nothing_after : Value → List Value → Option Value
 nothing_after v [] = Some v
 nothing_after v _ = None

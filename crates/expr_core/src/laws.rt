@@ -1,6 +1,6 @@
 //! Laws of the definitions, for whoever builds on them. The functions do nothing.
 
-ghost use Rattle.expr_core.specs.Laws.{DivisionExists, DivisionIsUnique, NothingByZero, OnlySlotsCount, ReasonsAreOfNodes, SortedHasNoBadNode, ValuesHaveSorts};
+ghost use Rattle.expr_core.specs.Laws.{DivisionExists, DivisionIsUnique, NothingByZero, OnlySlotsCount, ReasonsAreOfNodes, SlotsKeepValues, SortedHasNoBadNode, ValuesHaveSorts};
 
 /// By a number other than 0 there is a quotient with a remainder.
 pub fn division_exists()
@@ -35,4 +35,9 @@ pub fn sorted_has_no_bad_node()
 /// Each node has one place in the list of reasons.
 pub fn reasons_are_of_nodes()
     ensures { ReasonsAreOfNodes }
+{}
+
+/// A slot of an environment has what was put in it last.
+pub fn slots_keep_values()
+    ensures { SlotsKeepValues }
 {}

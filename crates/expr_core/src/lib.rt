@@ -12,12 +12,14 @@ mod pairs;
 mod partial;
 mod sorts;
 mod table;
+#[cfg(test)]
+mod tests;
 mod value;
 
 pub use env::Env;
 pub use expr::{Expr, Kids, Op};
 pub use laws::{
     division_exists, division_is_unique, nothing_by_zero, only_slots_count, reasons_are_of_nodes,
-    sorted_has_no_bad_node, values_have_sorts,
+    slots_keep_values, sorted_has_no_bad_node, values_have_sorts,
 };
 pub use sorts::SortFault;

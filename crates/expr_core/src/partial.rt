@@ -1,7 +1,7 @@
 ghost use Rattle.std.specs.Prelude.{◌≡◌, ◌≢◌, List, [], ◌∷◌, option_and_then};
 ghost use Rattle.sig_core.specs.declared.value.Value.{Value};
 ghost use Rattle.expr_core.specs.Operators.{applied};
-ghost use Rattle.expr_core.specs.Partials.{value_after, of_neighbours, of_two_numbers, of_two_truths};
+ghost use Rattle.expr_core.specs.Partials.{of_neighbours, of_two_numbers, of_two_truths, value_after};
 ghost use Rattle.expr_core.specs.declared.expr.Op.TheVariants as variant;
 
 use crate::expr::Op;
@@ -42,45 +42,36 @@ pub(crate) fn of_single(op: Op, value: Value) -> Option<Value>
 pub(crate) fn start(op: Op, first: Value) -> Option<Partial>
     requires strict { op ≢ variant.Ite }
     requires pairwise { op ≢ variant.Distinct }
-    ensures { (second : Value) (more : List Value) → applied op (first ∷ second ∷ more) ≡ option_and_then (λ made. value_after op made (second ∷ more)) result }
+    ensures { (second : Value) (more : List Value) →
+        applied op (first ∷ second ∷ more) ≡ option_and_then (λ made. value_after op made (second ∷ more)) result }
 {
+    let neighbours = Some(Partial::Neighbours {
+        holds: true,
+        last: first,
+    });
     match (op, first) {
         (Op::Add | Op::Minus | Op::Times | Op::Div, Value::Int(number)) => {
             Some(Partial::Number(number))
         }
+        (Op::Mod, Value::Int(number)) => Some(Partial::Dividend(number)),
         (Op::And | Op::Or | Op::Xor, Value::Bool(truth)) => Some(Partial::Truth(truth)),
         (Op::Implies, Value::Bool(truth)) => Some(Partial::Premises {
             refuted: false,
             last: truth,
         }),
-        (Op::Less, Value::Int(_)) => Some(Partial::Neighbours {
-            holds: true,
-            last: first,
-        }),
-        (Op::AtMost, Value::Int(_)) => Some(Partial::Neighbours {
-            holds: true,
-            last: first,
-        }),
-        (Op::Greater, Value::Int(_)) => Some(Partial::Neighbours {
-            holds: true,
-            last: first,
-        }),
-        (Op::AtLeast, Value::Int(_)) => Some(Partial::Neighbours {
-            holds: true,
-            last: first,
-        }),
-        (Op::Equal, _) => Some(Partial::Neighbours {
-            holds: true,
-            last: first,
-        }),
-        (Op::Mod, Value::Int(number)) => Some(Partial::Dividend(number)),
+        (Op::Less, Value::Int(_)) => neighbours,
+        (Op::AtMost, Value::Int(_)) => neighbours,
+        (Op::Greater, Value::Int(_)) => neighbours,
+        (Op::AtLeast, Value::Int(_)) => neighbours,
+        (Op::Equal, _) => neighbours,
         _ => None,
     }
 }
 
 /// What the operator makes of one operand more.
 pub(crate) fn advance(op: Op, made: Partial, value: Value) -> Option<Partial>
-    ensures { (more : List Value) → value_after op made (value ∷ more) ≡ option_and_then (λ next. value_after op next more) result }
+    ensures { (more : List Value) →
+        value_after op made (value ∷ more) ≡ option_and_then (λ next. value_after op next more) result }
 {
     match (made, value) {
         (Partial::Number(left), Value::Int(right)) => {

@@ -17,7 +17,9 @@ use sig_core::{Sort, Value};
 /// `=` and `distinct` want the sort that their first operand states, the branches of `ite` that of the first branch.
 #[derive(Clone, Copy, Debug, PartialEq, Eq)]
 pub struct SortFault {
+    /// the node's number in pre-order
     pub node: u32,
+    /// 1, 2 or 3
     pub reason: u8,
 }
 

@@ -1,9 +1,8 @@
 ghost use Rattle.std.specs.Prelude.{◌≡◌, ◌≢◌, ◌≤◌, ℕ, Option, drop, length, map, option_and_then, slice_get};
-ghost use Rattle.sig_core.specs.Lists.{all_some};
 ghost use Rattle.expr_core.specs.declared.expr.Op.TheVariants as variant;
 ghost use Rattle.expr_core.specs.Operators.{applied};
 ghost use Rattle.expr_core.specs.Partials.{differs_from_all};
-ghost use Rattle.expr_core.specs.Expressions.{choice, look, value_of, value_over};
+ghost use Rattle.expr_core.specs.Expressions.{choice, look, value_of, value_over, values_over};
 
 use crate::env::Env;
 use crate::expr::{Expr, Op};
@@ -92,7 +91,7 @@ fn conditional<S: Slots>(kids: &[Expr], slots: &S) -> Option<Value>
 fn fold<S: Slots>(op: Op, kids: &[Expr], slots: &S) -> Option<Value>
     requires strict { op ≢ variant.Ite }
     requires pairwise { op ≢ variant.Distinct }
-    ensures { result ≡ option_and_then (applied op) (all_some (map (value_over (S.gives slots.now)) kids.now)) }
+    ensures { result ≡ option_and_then (applied op) (values_over (S.gives slots.now) kids.now) }
 {
     let [first, rest @ ..] = kids else {
         return None;
@@ -110,7 +109,7 @@ fn fold<S: Slots>(op: Op, kids: &[Expr], slots: &S) -> Option<Value>
 
 #[cycle(value)]
 fn distinct<S: Slots>(kids: &[Expr], slots: &S) -> Option<Value>
-    ensures { result ≡ option_and_then (applied variant.Distinct) (all_some (map (value_over (S.gives slots.now)) kids.now)) }
+    ensures { result ≡ option_and_then (applied variant.Distinct) (values_over (S.gives slots.now) kids.now) }
 {
     if kids.len() > KEPT {
         return distinct_of_many(kids, slots);
@@ -126,7 +125,7 @@ fn distinct<S: Slots>(kids: &[Expr], slots: &S) -> Option<Value>
 #[cycle(value)]
 fn distinct_of_many<S: Slots>(kids: &[Expr], slots: &S) -> Option<Value>
     requires { 2 ≤ length kids.now }
-    ensures { result ≡ option_and_then (applied variant.Distinct) (all_some (map (value_over (S.gives slots.now)) kids.now)) }
+    ensures { result ≡ option_and_then (applied variant.Distinct) (values_over (S.gives slots.now) kids.now) }
 {
     let mut differ = true;
     for i in 0..kids.len() {
@@ -140,7 +139,7 @@ fn distinct_of_many<S: Slots>(kids: &[Expr], slots: &S) -> Option<Value>
 #[cycle(value)]
 fn differs<S: Slots>(value: Value, kids: &[Expr], from: usize, slots: &S) -> Option<bool>
     requires { from ≤ length kids.now }
-    ensures { result ≡ option_and_then (differs_from_all value) (all_some (map (value_over (S.gives slots.now)) (drop from kids.now))) }
+    ensures { result ≡ option_and_then (differs_from_all value) (values_over (S.gives slots.now) (drop from kids.now)) }
 {
     let mut differs = true;
     for j in from..kids.len() {

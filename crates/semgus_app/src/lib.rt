@@ -9,6 +9,8 @@ mod program;
 mod read;
 mod shape;
 mod status;
+#[cfg(test)]
+mod tests;
 
 pub use program::run;
 pub use status::{Fault, Status, Which};

@@ -1,19 +1,20 @@
-ghost use Rattle.std.specs.Prelude.{◌≡◌, ◌+◌, ◌<◌, ◌≤◌, ◌⊎◌, ℕ, List, Some, None, IfOk, OnOk};
+ghost use Rattle.std.specs.Prelude.{◌≡◌, ◌+◌, ◌<◌, ◌≤◌, ◌⊎◌, ℕ, List, Option, Some, None, IfOk, codes, take};
 ghost use Rattle.semgus_io.specs.Counts.{Rises, Stays};
 ghost use Rattle.semgus_io.specs.Writes.{Grows, GrowsByPart};
 ghost use Rattle.semgus_app.specs.Commands.{IsSolve, HaveNoForm};
-ghost use Rattle.semgus_app.specs.Dues.{HasCause, bad_words_line, cannot_open_line, read_fault_line};
+ghost use Rattle.problem_core.specs.Problems.{Parts, IsAnswer};
+ghost use Rattle.term_core.specs.declared.tree.Tree.{Tree};
+ghost use Rattle.semgus_app.specs.FileDues.{IsDue, IsAnswerText, IsOutput, NoneRose, status_of, whole_refusal};
+ghost use Rattle.semgus_app.specs.Statements.{States, StatesNothing};
+ghost use Rattle.semgus_app.specs.Dues.{HasCause, IsJudged, bad_words_line, cannot_open_line, read_fault_line};
 
 use crate::command::solve_of;
-use crate::judge::judge;
+use crate::judge::{FILE_LIMIT, judge};
 use crate::read::{ReadError, read_to_limit};
-use crate::status::Status;
+use crate::status::{Fault, Status, Which};
 use semgus_io::{Files, Sink, Words, put_all};
 use sig_core::Bytes;
 use std::alloc::{AllocError, Global};
-
-/// The greatest number of bytes of a problem file.
-const FILE_LIMIT: usize = 1_048_576;
 
 /// What is to be printed, and the status where it was printed whole.
 #[derive(Debug, Drop)]
@@ -55,11 +56,41 @@ pub fn run<F: Files, S: Sink>(alloc: Global, words: &Words, files: &mut F, out: 
 
     ensures taken { F.taken files.new ≤ F.taken files.old + 1048577 }
     ensures held { F.held files.new ≡ F.held files.old }
+
+    // The headline, for files of the first form. The printed term is the first, in order of size, of the grammar's terms
+    // for which every constraint has a derivation within the height, and valid derivations are printed.
+    ensures found { result ≡ Status.Found → NoneRose (F.open_faults files.old) (F.open_faults files.new) (F.read_faults files.old) (F.read_faults files.new) (S.faults out.old) (S.faults out.new)
+        × ((file bytes : List ℕ) (height size : ℕ) → IsSolve words.now file height size → F.held files.old file ≡ Some (Some bytes) →
+            (parts : Parts) × (text : List ℕ) × States (take 1048577 bytes) parts × IsAnswerText parts height size text × Grows (S.written out.old) (S.written out.new) text) }
+    // `none` is printed only where no term of a size within the bound has them.
+    ensures no_term { result ≡ Status.NoTerm → NoneRose (F.open_faults files.old) (F.open_faults files.new) (F.read_faults files.old) (F.read_faults files.new) (S.faults out.old) (S.faults out.new)
+        × ((file bytes : List ℕ) (height size : ℕ) → IsSolve words.now file height size → F.held files.old file ≡ Some (Some bytes) →
+            (parts : Parts) × States (take 1048577 bytes) parts × IsAnswer parts height size None × Grows (S.written out.old) (S.written out.new) (codes "none\n")) }
+    ensures refused { (which : Which) (fault : Fault) → result ≡ Status.Refused which fault → NoneRose (F.open_faults files.old) (F.open_faults files.new) (F.read_faults files.old) (F.read_faults files.new) (S.faults out.old) (S.faults out.new)
+        × (result ≡ whole_refusal)
+        × ((file bytes : List ℕ) (height size : ℕ) → IsSolve words.now file height size → F.held files.old file ≡ Some (Some bytes) →
+            StatesNothing (take 1048577 bytes) × Grows (S.written out.old) (S.written out.new) (codes "refused 0 13\n")) }
+    // Where no count rose and memory wasn't refused, the answer comes: `none` exactly where there is none.
+    ensures answered { (file bytes : List ℕ) (height size : ℕ) (parts : Parts) (answer : Option Tree) → IsSolve words.now file height size → F.held files.old file ≡ Some (Some bytes) →
+        States (take 1048577 bytes) parts → IsAnswer parts height size answer →
+        Stays (F.open_faults files.old) (F.open_faults files.new) → Stays (F.read_faults files.old) (F.read_faults files.new) → Stays (S.faults out.old) (S.faults out.new) →
+        (result ≡ status_of answer) ⊎ (result ≡ Status.Memory) }
+    ensures refusal { (file bytes : List ℕ) (height size : ℕ) → IsSolve words.now file height size → F.held files.old file ≡ Some (Some bytes) → StatesNothing (take 1048577 bytes) →
+        Stays (F.open_faults files.old) (F.open_faults files.new) → Stays (F.read_faults files.old) (F.read_faults files.new) → Stays (S.faults out.old) (S.faults out.new) →
+        (result ≡ whole_refusal) ⊎ (result ≡ Status.Memory) }
+
+    // A write that failed leaves a first part of the output that was due.
+    ensures bad_words_part { result ≡ Status.WriteFault → HaveNoForm words.now → GrowsByPart (S.written out.old) (S.written out.new) bad_words_line }
+    ensures due_part { result ≡ Status.WriteFault → (file bytes : List ℕ) (height size : ℕ) → IsSolve words.now file height size → F.held files.old file ≡ Some (Some bytes) →
+        (text : List ℕ) × IsOutput file (take 1048577 bytes) height size (F.open_faults files.old) (F.open_faults files.new) (F.read_faults files.old) (F.read_faults files.new) text
+        × GrowsByPart (S.written out.old) (S.written out.new) text }
+    ensures not_held_part { result ≡ Status.WriteFault → (file : List ℕ) (height size : ℕ) → IsSolve words.now file height size → F.held files.old file ≡ Some None →
+        GrowsByPart (S.written out.old) (S.written out.new) (cannot_open_line file) }
 {
     let Some(task) = solve_of(words) else {
         return print(out, b"bad words\n", Status::BadWords);
     };
-    match due_of(alloc, task.file, task.height, task.size, files) {
+    match due_of(alloc, task.file, files) {
         Ok(due) => print(out, due.text.as_slice(), due.status),
         Err(_) => Status::Memory,
     }
@@ -76,17 +107,13 @@ fn print<S: Sink>(out: &mut S, text: &[u8], status: Status) -> Status
     }
 }
 
-/// What is due for a problem file and the bounds on the height of derivations and the size of terms.
-fn due_of<F: Files>(
-    alloc: Global,
-    file: &str,
-    height: u32,
-    size: u32,
-    files: &mut F,
-) -> Result<Due, AllocError>
+/// What is due for a problem file.
+fn due_of<F: Files>(alloc: Global, file: &str, files: &mut F) -> Result<Due, AllocError>
     ensures cause { IfOk result (λ d. HasCause d.status d.text file.now
         (F.open_faults files.old) (F.open_faults files.new) (F.read_faults files.old) (F.read_faults files.new)) }
     ensures not_held { F.held files.old file.now ≡ Some None → IfOk result (λ d. d.status ≡ Status.CannotOpen) }
+    ensures judged { IfOk result (λ d. IsJudged d.status → (bytes : List ℕ) (height size : ℕ) → F.held files.old file.now ≡ Some (Some bytes) → 1 ≤ height → 1 ≤ size →
+        IsDue (take 1048577 bytes) height size d.status d.text) }
     ensures taken { F.taken files.new ≤ F.taken files.old + 1048577 }
     ensures held { F.held files.new ≡ F.held files.old }
 {
@@ -94,7 +121,7 @@ fn due_of<F: Files>(
         return cannot_open(alloc, file);
     }
     match read_to_limit(alloc, files, FILE_LIMIT) {
-        Ok(bytes) => judge(alloc, bytes.as_slice(), height, size),
+        Ok(bytes) => Ok(judge(alloc, bytes.as_slice())?),
         Err(ReadError::Failed) => read_fault(alloc),
         Err(ReadError::Memory) => Err(AllocError),
     }

@@ -7,6 +7,8 @@ mod host_sink;
 mod memory_files;
 mod memory_sink;
 mod sink;
+#[cfg(test)]
+mod tests;
 mod words;
 
 pub use files::{Failed, Files};

@@ -5,3 +5,4 @@ pub mod Steps
 pub mod Once
 pub mod Completing
 pub mod Readings
+pub mod Small

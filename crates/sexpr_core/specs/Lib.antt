@@ -1,3 +1,4 @@
 pub mod Lexicon
 pub mod Reading
+pub mod Sizes
 pub mod Spelling

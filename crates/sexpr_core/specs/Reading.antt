@@ -15,12 +15,14 @@ closed opened items = opened.before ++ sexpr.List (record { place = opened.place
 abbrev pub Closes : List Opened → ℕ → List Sexpr → ℕ → List ℕ → List Sexpr → Type 0
 Closes [] depth items place rest forms = (rest ≡ []) × (forms ≡ items)
 Closes (opened ∷ around) depth items place rest forms =
-    (after : List ℕ) × (rest ≡ 41 ∷ after) × (more : List Sexpr) × (end : ℕ) × (last : List ℕ) × Spelled (suc depth) (place + 1) after more end last × Closes around (suc depth) (closed opened items ++ more) end last forms
+    (after : List ℕ) × (rest ≡ 41 ∷ after) × (more : List Sexpr) × (end : ℕ) × (last : List ℕ)
+    × Spelled (suc depth) (place + 1) after more end last × Closes around (suc depth) (closed opened items ++ more) end last forms
 
 -- the bytes from a place on go on with the items of the innermost open list, and close the open lists
 abbrev pub Completes : List Opened → ℕ → List Sexpr → ℕ → List ℕ → List Sexpr → Type 0
 Completes opened depth items place bytes forms =
-    (more : List Sexpr) × (end : ℕ) × (rest : List ℕ) × Spelled depth place bytes more end rest × Closes opened depth (items ++ more) end rest forms
+    (more : List Sexpr) × (end : ℕ) × (rest : List ℕ)
+    × Spelled depth place bytes more end rest × Closes opened depth (items ++ more) end rest forms
 
 -- the bytes from a place on make these forms of what was read before it
 abbrev pub Gives : Reading → ℕ → List ℕ → List Sexpr → Type 0
@@ -30,4 +32,5 @@ Gives reading place bytes forms = Completes (reverse reading.opened) (200 - leng
 -- gives what it gave before the step.
 abbrev pub Steps : Reading → Reading → List ℕ → ℕ → Option ℕ → Type 0
 Steps old new text at None = (forms : List Sexpr) → Gives old at (drop at text) forms → ⊥
-Steps old new text at (Some end) = (at < end) × (end ≤ length text) × ((forms : List Sexpr) → Gives old at (drop at text) forms ↔ Gives new end (drop end text) forms)
+Steps old new text at (Some end) =
+    (at < end) × (end ≤ length text) × ((forms : List Sexpr) → Gives old at (drop at text) forms ↔ Gives new end (drop end text) forms)

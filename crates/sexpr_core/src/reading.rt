@@ -1,7 +1,8 @@
-ghost use Rattle.std.specs.Prelude.{◌≡◌, ◌≢◌, ℕ, slice_index, IsFalse, ◌≤◌, ◌<◌, ◌^◌, [], ◌∷◌, ◌++◌, List, length, IfOk, MatchOption};
+ghost use Rattle.std.specs.Prelude.{◌≡◌, ◌≢◌, ℕ, slice_index, IsFalse, ◌≤◌, ◌<◌, ◌^◌, [], ◌∷◌, ◌++◌, List, length, IfOk, IfSome, MatchOption, All};
 ghost use Rattle.std.specs.Bool.{MatchBool};
 ghost use Rattle.sexpr_core.specs.declared.form.Sexpr.{Sexpr};
 ghost use Rattle.sexpr_core.specs.Lexicon.{is_blank, IsPlain};
+ghost use Rattle.sexpr_core.specs.Sizes.{IsSmall};
 ghost use Rattle.sexpr_core.specs.Spelling.{Spell};
 
 use crate::forest::Forest;
@@ -127,9 +128,10 @@ impl Reading {
 /// read yet.
 pub fn read_whole(alloc: Global, text: &[u8]) -> Result<Option<Forest>, AllocError>
     requires { length text.now < 2 ^ 32 }
-    ensures { IfOk result (λ found. MatchOption found
+    ensures forms { IfOk result (λ found. MatchOption found
         ((forms : List Sexpr) → Spell text.now forms → ¬ IsPlain text.now)
         (λ forest. Spell text.now forest × IsPlain text.now)) }
+    ensures small { IfOk result (λ found. IfSome found (All IsSmall)) }
 {
     if has_unread(text) {
         return Ok(None);

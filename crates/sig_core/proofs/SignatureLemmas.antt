@@ -1,17 +1,16 @@
 -- A signature stays well formed as it grows.
-use Rattle.std.proofs.Common.{◌≡◌, ◌≢◌, ℕ, ◌+◌, ◌<◌, ◌≤◌, Bool, true, false, ◌||◌, List, [], ◌∷◌, ◌++◌, length, map, get_or, Option, Some, None, All, refl, sym, ap, ◌∙◌, if◌then◌else◌, subst, rules, arith}
-use Rattle.std.specs.Prelude.{nat_lt, is_some, AllPairs}
+use Rattle.std.proofs.Common.{◌≡◌, ℕ, ◌<◌, ◌≤◌, Bool, true, false, ◌||◌, List, [], ◌∷◌, ◌++◌, length, Option, Some, None, All, refl, if◌then◌else◌, arith}
+use Rattle.std.specs.Prelude.{nat_lt, is_some}
 use Rattle.std.proofs.lemmas.Bool.{ltb-true}
-use Rattle.std.proofs.lemmas.List.{length-map, length-append, map-append}
+use Rattle.std.proofs.lemmas.List.{length-append, map-append}
 use Rattle.std.proofs.lemmas.List.Elements.{All-push, All-weaker, All-get_or}
 use Rattle.std.proofs.lemmas.List.Quantifiers.{all_pairs_push}
-use Rattle.sig_core.specs.declared.ids.TypeId.{TypeId}
 use Rattle.sig_core.specs.declared.signature.Constructor.{Constructor}
 use Rattle.sig_core.specs.declared.signature.Relation.{Relation}
 use Rattle.sig_core.specs.declared.signature.SigError.{SigError}
-use Rattle.sig_core.specs.Names.{place_of, AreDistinct}
+use Rattle.sig_core.specs.Names.{place_of}
 use Rattle.sig_core.specs.Signatures.{Declarations}
-use Rattle.sig_core.specs.WellFormed.{IsDeclared, IsRelation, IsConstructor, OwnersRise, IsWellFormed, constructor_names, relation_names}
+use Rattle.sig_core.specs.WellFormed.{IsDeclared, IsRelation, IsConstructor, IsWellFormed, constructor_names, relation_names}
 use Rattle.sig_core.specs.Refusals.{type_refusal, constructor_refusal, relation_refusal, with_type, with_constructor, with_relation}
 use Rattle.sig_core.proofs.NameLemmas.{AreDistinct-push}
 

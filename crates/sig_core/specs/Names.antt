@@ -1,5 +1,5 @@
 -- Names: the first place of one in a list, and how a symbol is spelled.
-use Rattle.std.specs.Prelude.{◌≡◌, ◌≢◌, ℕ, Bool, true, false, not, ◌&&◌, ◌||◌, nat_eq, if◌then◌else◌, Option, List, [], ◌∷◌, ◌++◌, AllPairs, position, codes}
+use Rattle.std.specs.Prelude.{◌≢◌, ℕ, Bool, false, not, ◌&&◌, ◌||◌, nat_eq, if◌then◌else◌, Option, List, [], ◌∷◌, ◌++◌, AllPairs, position, codes}
 use Rattle.std.specs.List.{list_all, list_any}
 use Rattle.std.specs.Char.{is_ascii_digit, is_ascii_alphanumeric}
 use Rattle.std.specs.Cmp.Lexicographic.{pointwise}

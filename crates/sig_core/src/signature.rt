@@ -308,7 +308,7 @@ impl Signature {
     }
 }
 
-fn copy_of(alloc: Global, bytes: &[u8]) -> Result<Bytes, AllocError>
+pub(crate) fn copy_of(alloc: Global, bytes: &[u8]) -> Result<Bytes, AllocError>
     ensures { IfOk result (λ copy. copy ≡ bytes.now) }
 {
     let mut copy = Bytes::new(alloc);

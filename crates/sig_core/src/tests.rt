@@ -1,121 +1,130 @@
+ghost use Rattle.std.specs.Prelude.{◌≡◌, [], ◌∷◌, codes, IfOk};
+ghost use Rattle.sig_core.specs.declared.signature.Kind.TheVariants.{Term};
+
+use crate::signature::copy_of;
 use crate::{
     Bytes, ConId, Kind, Param, Params, RelId, Relation, SigError, Signature, TypeId, Value,
     is_reserved, is_simple_symbol, is_symbol_byte, order, put_symbol, put_value,
 };
+use std::alloc::{AllocError, Global};
 use std::cmp::Ordering;
 use std::test::Fail;
 
+fn literal(alloc: Global, value: Value) -> Result<Bytes, AllocError> {
+    let mut out = Bytes::new(alloc);
+    put_value(&value, &mut out)?;
+    Ok(out)
+}
+
 #[test]
 fn spells_literals(rt: HostRuntime) -> Result<(), Fail> {
-    let mut out = Bytes::new(rt.alloc());
-    put_value(
-        &Value::Int(-170141183460469231731687303715884105728),
-        &mut out,
-    )?;
-    put_value(&Value::Int(0), &mut out)?;
-    put_value(&Value::Bool(true), &mut out)?;
-    put_value(&Value::Int(-4), &mut out)?;
-    put_value(&Value::Bool(false), &mut out)?;
-    let text = b"(- 170141183460469231731687303715884105728)0true(- 4)false";
-    assert_eq!(rt; out.as_slice(), text.as_slice());
+    let least = literal(rt.alloc(), Value::Int(i128::MIN))?;
+    assert_eq!(rt;
+        least.as_slice(),
+        b"(- 170141183460469231731687303715884105728)".as_slice()
+    );
+    let truth = literal(rt.alloc(), Value::Bool(true))?;
+    assert_eq!(rt; truth.as_slice(), b"true".as_slice());
     Ok(())
+}
+
+fn symbol(alloc: Global, name: &[u8]) -> Result<Bytes, AllocError> {
+    let mut out = Bytes::new(alloc);
+    put_symbol(name, &mut out)?;
+    Ok(out)
 }
 
 #[test]
 fn spells_symbols(rt: HostRuntime) -> Result<(), Fail> {
-    let mut out = Bytes::new(rt.alloc());
-    put_symbol(b"$x", &mut out)?;
-    put_symbol(b"2x", &mut out)?;
-    put_symbol(b"", &mut out)?;
-    put_symbol(b"a b", &mut out)?;
-    put_symbol(b"<=", &mut out)?;
-    assert_eq!(rt; out.as_slice(), b"$x|2x||||a b|<=".as_slice());
-    assert!(rt; is_simple_symbol(b"-4"));
-    assert!(rt; !is_symbol_byte(b'|'));
+    assert_eq!(rt; symbol(rt.alloc(), b"$x")?.as_slice(), b"$x".as_slice());
+    assert_eq!(rt; symbol(rt.alloc(), b"2x")?.as_slice(), b"|2x|".as_slice());
     Ok(())
 }
 
 #[test]
-fn orders_numbers_before_truth_values(rt: HostRuntime) {
+fn tells_words(rt: HostRuntime) {
     assert_eq!(rt; order(Value::Int(9), Value::Bool(false)), Ordering::Less);
-    assert_eq!(rt;
-        order(Value::Bool(true), Value::Bool(false)),
-        Ordering::Greater
-    );
-    assert_eq!(rt; order(Value::Int(-1), Value::Int(0)), Ordering::Less);
-}
-
-#[test]
-fn knows_reserved_words(rt: HostRuntime) {
     assert!(rt; is_reserved(b"distinct"));
-    assert!(rt; is_reserved(b"Int"));
-    assert!(rt; !is_reserved(b"E"));
+    assert!(rt; is_simple_symbol(b"-4"));
+    assert!(rt; !is_symbol_byte(b'|'));
+}
+
+fn second_type(alloc: Global) -> Result<Option<TypeId>, SigError> {
+    let mut signature = Signature::new(alloc);
+    signature.add_type(b"E")?;
+    let added = signature.add_type(b"F")?;
+    let _name = signature.type_name(added);
+    Ok(signature.type_named(b"F"))
+}
+
+fn type_again(alloc: Global, name: &[u8]) -> Result<TypeId, SigError> {
+    let mut signature = Signature::new(alloc);
+    signature.add_type(b"E")?;
+    signature.add_type(name)
 }
 
 #[test]
-fn numbers_types(rt: HostRuntime) -> Result<(), Fail> {
-    let mut signature = Signature::new(rt.alloc());
-    assert_eq!(rt; signature.add_type(b"Int"), Err(SigError::Twice));
-    assert_eq!(rt; signature.add_type(b"E"), Ok(TypeId(0)));
-    assert_eq!(rt; signature.add_type(b"E"), Err(SigError::Twice));
-    let second = signature.add_type(b"F")?;
-    assert_eq!(rt; signature.type_named(b"F"), Some(second));
-    assert_eq!(rt; signature.type_named(b"G"), None);
-    assert_eq!(rt; signature.type_name(second).as_slice(), b"F".as_slice());
+fn numbers_types(rt: HostRuntime) {
+    assert_eq!(rt; second_type(rt.alloc()), Ok(Some(TypeId(1))));
+    assert_eq!(rt; type_again(rt.alloc(), b"E"), Err(SigError::Twice));
+    assert_eq!(rt; type_again(rt.alloc(), b"Int"), Err(SigError::Twice));
+}
+
+fn many_types(alloc: Global, last: &[u8]) -> Result<TypeId, SigError> {
+    let mut signature = Signature::new(alloc);
     for k in 0..=255u8 {
-        let added = signature.add_type(&[b'T', k]);
-        assert_eq!(rt; added.is_ok(), k < 254);
+        signature.add_type(&[b'T', k])?;
     }
-    assert_eq!(rt; signature.types(), 256);
-    assert_eq!(rt; signature.add_type(b"G"), Err(SigError::Limit(5)));
+    signature.add_type(last)
+}
+
+#[test]
+fn numbers_at_most_256_types(rt: HostRuntime) {
+    assert_eq!(rt; many_types(rt.alloc(), b"E"), Err(SigError::Limit(5)));
     assert_eq!(rt;
-        signature.add_type(b"Bool"),
+        many_types(rt.alloc(), b"Bool"),
         Err(SigError::Twice),
         "before the limit"
     );
-    Ok(())
+}
+
+fn plus(alloc: Global) -> Result<(ConId, u16, usize), SigError> {
+    let mut signature = Signature::new(alloc);
+    let owner = signature.add_type(b"E")?;
+    let added = signature.add_constructor(b"$+", owner, &[owner, owner])?;
+    let args = signature.constructor(added).args.len();
+    Ok((added, signature.constructors(), args))
 }
 
 #[test]
-fn numbers_constructors(rt: HostRuntime) -> Result<(), Fail> {
-    let mut signature = Signature::new(rt.alloc());
-    let owner = signature.add_type(b"E")?;
-    let plus = signature.add_constructor(b"$+", owner, &[owner, owner])?;
-    assert_eq!(rt; plus, ConId(0));
-    assert_eq!(rt; signature.constructors(), 1);
-    assert_eq!(rt; signature.constructor_named(b"$+"), Some(plus));
-    assert_eq!(rt; signature.constructor(plus).args.len(), 2);
-    assert_eq!(rt;
-        signature.add_constructor(b"$+", owner, &[]),
-        Err(SigError::Twice)
-    );
-    assert_eq!(rt;
-        signature.add_constructor(b"wide", owner, &[owner; 17]),
-        Err(SigError::Limit(7))
-    );
-    Ok(())
+fn numbers_constructors(rt: HostRuntime) {
+    assert_eq!(rt; plus(rt.alloc()), Ok((ConId(0), 1, 2)));
 }
 
-#[test]
-fn numbers_relations(rt: HostRuntime) -> Result<(), Fail> {
-    let mut signature = Signature::new(rt.alloc());
-    let owner = signature.add_type(b"E")?;
-    let mut params = Params::new(rt.alloc());
-    let mut name = Bytes::new(rt.alloc());
-    name.append(b"t")?;
+fn one_parameter(alloc: Global, owner: TypeId) -> Result<Relation, AllocError>
+    ensures { IfOk result (λ relation. relation ≡ record { name = codes "S"; params = record { name = codes "t"; kind = Term owner } ∷ [] }) }
+{
+    let mut params = Params::new(alloc);
     params.push(Param {
-        name,
+        name: copy_of(alloc, b"t")?,
         kind: Kind::Term(owner),
     })?;
-    let mut name = Bytes::new(rt.alloc());
-    name.append(b"S")?;
-    assert_eq!(rt;
-        signature.add_relation(Relation { name, params }),
-        Ok(RelId(0))
-    );
-    assert_eq!(rt; signature.relations(), 1);
-    assert_eq!(rt; signature.relation_named(b"S"), Some(RelId(0)));
-    let stands = signature.relation_named(b"S").ok_or("S")?;
-    assert_eq!(rt; signature.relation(stands).params.len(), 1);
-    Ok(())
+    Ok(Relation {
+        name: copy_of(alloc, b"S")?,
+        params,
+    })
+}
+
+fn relation(alloc: Global) -> Result<(RelId, u16), SigError> {
+    let mut signature = Signature::new(alloc);
+    let owner = signature.add_type(b"E")?;
+    let relation = one_parameter(alloc, owner)?;
+    let added = signature.add_relation(relation)?;
+    let _params = signature.relation(added);
+    Ok((added, signature.relations()))
+}
+
+#[test]
+fn numbers_relations(rt: HostRuntime) {
+    assert_eq!(rt; relation(rt.alloc()), Ok((RelId(0), 1)));
 }

@@ -1,5 +1,5 @@
 -- The order of terms, part by part.
-use Rattle.std.proofs.Common.{◌≡◌, ℕ, ◌+◌, ◌-◌, ◌<◌, ◌≤◌, min, List, [], ◌∷◌, length, map, get_or, drop, sym, refl, ap, ap₂, ◌∙◌, arith, Bool, true, false, not, eqb, ◌==◌}
+use Rattle.std.proofs.Common.{◌≡◌, ℕ, ◌+◌, ◌-◌, ◌<◌, ◌≤◌, min, List, [], ◌∷◌, length, map, get_or, drop, sym, refl, ap₂, ◌∙◌, arith, Bool, true, false, not, eqb, ◌==◌}
 use Rattle.std.proofs.lemmas.List.{drop_more, length-drop, length-map}
 use Rattle.std.proofs.lemmas.Bool.Decides.{nat_tests}
 use Rattle.std.specs.Ordering.{nat_cmp, ordering_then, ordering_reverse, ordering_index}

@@ -1,14 +1,14 @@
 -- A bank with one more node.
-use Rattle.std.proofs.Common.{◌≡◌, ℕ, ◌+◌, ◌<◌, ◌≤◌, List, [], ◌∷◌, ◌++◌, length, map, sum, get_or, All, Contains, ◌⊎◌, inl, inr, sym, refl, ap, ap₂, subst, ◌∙◌, arith}
+use Rattle.std.proofs.Common.{◌≡◌, ℕ, ◌+◌, ◌<◌, List, [], ◌∷◌, ◌++◌, length, map, sum, get_or, All, Contains, ◌⊎◌, inl, inr, sym, refl, ap, ap₂, subst, ◌∙◌, arith}
 use Rattle.std.proofs.lemmas.Bool.{cases_lt}
 use Rattle.std.proofs.lemmas.List.{get_or_append_left, get_or_push, length_push, get_or_default}
-use Rattle.std.proofs.lemmas.List.Elements.{All-head, All-tail, All-same, All-weaker}
+use Rattle.std.proofs.lemmas.List.Elements.{All-head, All-tail, All-weaker}
 use Rattle.sig_core.specs.declared.ids.ConId.{ConId}
 use Rattle.term_core.specs.declared.ids.TermId.{TermId}
 use Rattle.term_core.specs.declared.node.Node.{Node}
 use Rattle.term_core.specs.declared.tree.Tree.{Tree}
 use Rattle.term_core.specs.Terms.{node, size}
-use Rattle.term_core.specs.Banks.{EachOnce, IsLive, leaf, tree_of}
+use Rattle.term_core.specs.Banks.{EachOnce, IsLive, Keeps, leaf, tree_of}
 use Rattle.term_core.specs.Nodes.{HasNode, IsBank, term_over, trees_of}
 use Rattle.term_core.proofs.Order.{size-node}
 use Rattle.term_core.proofs.Parts.{same_con, same_kids}
@@ -111,3 +111,10 @@ grown ns first second after con kids start own size' bank is_first is_second liv
     let kids_are : own ≡ kids = is_own ∙ ap (λ xs. xs ++ kids) no_start in
     let last : after ≡ ns ++ record { con = con; kids = kids; size = size' } ∷ [] = is ∙ ap (λ ids. ns ++ record { con = con; kids = ids; size = size' } ∷ []) kids_are in
     subst (λ xs. Grown ns xs con kids) (sym last) (grown_by ns bank con kids live (subst (All (λ n. HasNode con kids n → ⊥)) is_first absent) size' size_is)
+
+-- a term that is put last leaves the others
+pub Keeps-push : (bank : List Tree) (t : Tree) → Keeps bank (bank ++ t ∷ [])
+Keeps-push bank t = record {
+  live = omega (arith, length_push bank t);
+  same = λ id h. get_or_append_left bank (t ∷ []) leaf id.0 h;
+}

@@ -1,13 +1,13 @@
 -- Marks that reach every subterm of a term.
 use Rattle.std.proofs.Common.{◌≡◌, ℕ, zero, suc, ◌+◌, ◌<◌, ◌≤◌, Bool, true, false, List, [], ◌∷◌, ◌++◌, length, map, get_or, set, take, drop, replicate, All, Contains, ◌⊎◌, inl, inr, sym, refl, ap, subst, ◌∙◌, arith}
-use Rattle.std.proofs.lemmas.Bool.{cases_eq, cases_lt}
-use Rattle.std.proofs.lemmas.List.{append-nil, drop_all, take_all, get_or-set_same, get_or-set_other, get_or-replicate, get_or_default, get_or-map, length-set, length-map, length-replicate}
+use Rattle.std.proofs.lemmas.Bool.{cases_eq}
+use Rattle.std.proofs.lemmas.List.{append-nil, drop_all, take_all, get_or-set_same, get_or-set_other, get_or_default, get_or-map, length-set, length-map, length-replicate}
 use Rattle.std.proofs.lemmas.List.Elements.{All-head, All-tail, All-cons, All-nil, All-weaker}
 use Rattle.term_core.specs.declared.ids.TermId.{TermId}
 use Rattle.term_core.specs.declared.node.Node.{Node}
 use Rattle.term_core.specs.declared.tree.Tree.{Tree}
 use Rattle.term_core.specs.Terms.{kids_of, IsSubterm, itself, below}
-use Rattle.term_core.specs.Banks.{leaf, tree_of}
+use Rattle.term_core.specs.Banks.{tree_of}
 use Rattle.term_core.specs.Marks.{MarkSubterms, marked_with}
 use Rattle.term_core.specs.Nodes.{IsBank, trees_of}
 use Rattle.term_core.proofs.NodeReads.{kids_read}

@@ -1,5 +1,5 @@
 -- What a read of a bank's nodes says of its terms.
-use Rattle.std.proofs.Common.{◌≡◌, ℕ, ◌<◌, List, length, map, get_or, All, Contains, sym, refl, ap, ap₂, subst, ◌∙◌, arith}
+use Rattle.std.proofs.Common.{◌≡◌, ℕ, ◌<◌, List, length, map, get_or, All, Contains, sym, ap, ap₂, subst, ◌∙◌, arith}
 use Rattle.std.proofs.lemmas.List.{get_or_default}
 use Rattle.sig_core.specs.declared.ids.ConId.{ConId}
 use Rattle.term_core.specs.declared.ids.TermId.{TermId}

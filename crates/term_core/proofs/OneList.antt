@@ -1,5 +1,5 @@
 -- Two ascending lists of the same terms are one.
-use Rattle.std.proofs.Common.{◌≡◌, ◌↔◌, ℕ, zero, suc, ◌<◌, List, [], ◌∷◌, length, get_or, All, AllPairs, Contains, ◌⊎◌, inl, inr, sym, refl, ap₂, subst, ◌∙◌, arith}
+use Rattle.std.proofs.Common.{◌≡◌, zero, suc, ◌<◌, List, [], ◌∷◌, All, AllPairs, Contains, ◌⊎◌, inl, inr, sym, refl, ap₂, subst, ◌∙◌, arith}
 use Rattle.std.specs.declared.cmp.Ordering.TheVariants.{Less, Equal}
 use Rattle.std.proofs.lemmas.List.Elements.{All-contains}
 use Rattle.term_core.specs.declared.tree.Tree.{Tree}

@@ -1,12 +1,12 @@
 -- A term and its parts.
-use Rattle.std.proofs.Common.{◌≡◌, ◌≤◌, ◌<◌, ◌+◌, ℕ, zero, suc, List, [], ◌∷◌, map, sum, length, get_or, Contains, cond, true, sym, refl, ap, ap₂, subst, ◌∙◌, arith, rules}
+use Rattle.std.proofs.Common.{◌≡◌, ◌≤◌, ◌<◌, ◌+◌, ℕ, zero, suc, List, [], ◌∷◌, map, sum, length, get_or, Contains, sym, ap, ap₂, ◌∙◌, arith, rules}
 use Rattle.std.proofs.lemmas.List.Sums.{sum_by-cons}
 use Rattle.std.specs.Ordering.{nat_cmp, ordering_then}
 use Rattle.std.specs.Cmp.Lexicographic.{slice_cmp}
 use Rattle.std.specs.declared.cmp.Ordering.{Ordering}
-use Rattle.std.specs.declared.cmp.Ordering.TheVariants.{Less, Equal, Greater}
+use Rattle.std.specs.declared.cmp.Ordering.TheVariants.{Less}
 use Rattle.sig_core.specs.declared.ids.ConId.{ConId}
-use Rattle.term_core.specs.declared.tree.Tree.{Tree, the_lemmas, out-Tree, roll-Tree}
+use Rattle.term_core.specs.declared.tree.Tree.{Tree, the_lemmas}
 use Rattle.term_core.specs.Terms.{node, con_of, kids_of, size, term_cmp}
 use Rattle.term_core.proofs.Order.{size-node, term_cmp-node}
 

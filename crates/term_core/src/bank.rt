@@ -1,5 +1,5 @@
 ghost use Rattle.std.specs.Prelude.{◌≡◌, ◌+◌, ◌<◌, ◌^◌, [], ◌∷◌, ◌++◌, ◌↔◌, map, length, All, Contains, IfOk, OnOk, OnErr};
-ghost use Rattle.term_core.specs.Banks.{EachOnce, IsLive, Lists, tree_of};
+ghost use Rattle.term_core.specs.Banks.{EachOnce, IsLive, Keeps, Lists, tree_of};
 ghost use Rattle.term_core.specs.Terms.{con_of, node, size, term_cmp};
 
 use crate::ids::{Ids, TermId};
@@ -63,6 +63,7 @@ impl Bank {
     ) -> Result<TermId, AllocError>
         requires live { All (IsLive self.old) kids.now }
         requires small { size (node con (map (tree_of self.old) kids.now)) < 2 ^ 32 }
+        ensures kept { Keeps self.old self.new }
         ensures live { IfOk result (IsLive self.new) }
         ensures tree { IfOk result
             (λ id. tree_of self.new id ≡ node con (map (tree_of self.old) kids.now)) }

@@ -5,6 +5,8 @@ mod bank;
 mod ids;
 mod laws;
 mod node;
+#[cfg(test)]
+mod tests;
 mod tree;
 
 pub use bank::Bank;

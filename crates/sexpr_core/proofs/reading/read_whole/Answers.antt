@@ -1,5 +1,7 @@
 use Rattle.std.proofs.Common.{sym, ◌∙◌, arith}
 use Rattle.sexpr_core.proofs.Readings.{gives_start, finishes}
+use Rattle.sexpr_core.specs.Lexicon.{IsPlain}
+use Rattle.sexpr_core.proofs.Small.{found_small}
 use Rattle.sexpr_core.proofs.reading.read_whole.Goals as goal
 
 pub loop-at-init : goal.loop-at-init
@@ -9,8 +11,8 @@ loop-at-init c = record {
   same = gives_start c.new-reading.result c.args.text.now c.new-reading.ensures.opened c.new-reading.ensures.forms;
 }
 
-pub returns-in_default : goal.returns-in_default
-returns-in_default c = λ forms s p.
+pub returns-in_default-clause-forms : goal.returns-in_default-clause-forms
+returns-in_default-clause-forms c = λ forms s p.
     let said = rw c.in_default.is at c.in_ok-end.ensures in
     said forms ((c.loop-at.invariant.same forms).0 s)
 
@@ -24,7 +26,13 @@ loop-at-preserved c =
       same = λ forms. (λ s. (said.2 forms).0 ((kept.same forms).0 s), λ g. (kept.same forms).1 ((said.2 forms).1 g));
     }
 
-pub returns : goal.returns
-returns c =
+pub returns-clause-forms : goal.returns-clause-forms
+returns-clause-forms c =
     let kept = c.loop-at.invariant in
     finishes c.loop-at.reading c.args.text.now c.loop-at.at c.loop-at-test.false kept.plain kept.same c.finish.result c.finish.ensures
+
+pub returns-clause-small : goal.returns-clause-small
+returns-clause-small c =
+    let kept = c.loop-at.invariant in
+    let text = c.args.text.now in
+    found_small text _ (λ _. IsPlain text) c.requires c.finish.result (finishes c.loop-at.reading text c.loop-at.at c.loop-at-test.false kept.plain kept.same c.finish.result c.finish.ensures)

@@ -1,4 +1,3 @@
-use Rattle.std.proofs.Common.{rules}
 use Rattle.sig_core.specs.Names.{is_reserved}
 use Rattle.sig_core.proofs.text.is_reserved.Goals as goal
 

@@ -1,4 +1,3 @@
-use Rattle.term_core.proofs.Trees.{length-trees_of}
 use Rattle.term_core.proofs.Order.{term_cmp-total, same_term, term_cmp-node, size-node}
 use Rattle.term_core.proofs.Parts.{child_first}
 use Rattle.term_core.proofs.laws.order_laws.Goals as goal

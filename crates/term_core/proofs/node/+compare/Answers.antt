@@ -2,7 +2,7 @@ use Rattle.std.proofs.Common.{◌≡◌, ◌<◌, ◌∙◌, sym, ap, arith, len
 use Rattle.std.proofs.lemmas.Bool.{eqb-true}
 use Rattle.term_core.specs.Banks.{tree_of}
 use Rattle.term_core.specs.Nodes.{trees_of}
-use Rattle.term_core.specs.Terms.{con_of, kids_of, size, term_cmp}
+use Rattle.term_core.specs.Terms.{term_cmp}
 use Rattle.term_core.proofs.Compare.{itself_equal, by_size, by_con, kids_decide, kids_differ, kids_end, numbers_agree, numbers_differ, order_differs}
 use Rattle.term_core.proofs.NodeReads.{con_read, kids_read, size_read}
 use Rattle.term_core.proofs.node.+compare.Goals as goal

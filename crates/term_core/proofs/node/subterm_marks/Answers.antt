@@ -1,5 +1,5 @@
-use Rattle.std.proofs.Common.{rules, ◌≡◌, ◌+◌, ◌-◌, ◌<◌, ◌∙◌, sym, ap, subst, arith, length, true, false, List, Bool, get_or, set}
-use Rattle.std.proofs.lemmas.List.{get_or_read, get_or_default}
+use Rattle.std.proofs.Common.{◌≡◌, ◌+◌, ◌-◌, ◌<◌, ◌∙◌, sym, ap, subst, arith, length, true, false, get_or, set}
+use Rattle.std.proofs.lemmas.List.{get_or_read}
 use Rattle.term_core.specs.Marks.{marked_with}
 use Rattle.term_core.proofs.Marking.{Marked, marked_start, marked_skip, marked_next, marks_end, length-marked_with, written_back}
 use Rattle.term_core.proofs.node.subterm_marks.Goals as goal

@@ -1,9 +1,9 @@
-use Rattle.std.proofs.Common.{◌≡◌, [], ◌∷◌, ◌++◌, ap, sym, ◌∙◌, Bool, if◌then◌else◌, None, false, List, map, nat_eq}
+use Rattle.std.proofs.Common.{◌≡◌, [], ◌∷◌, ◌++◌, ap, sym, ◌∙◌, Bool, if◌then◌else◌, None, false, map, nat_eq}
 use Rattle.std.specs.List.{list_any}
 use Rattle.std.specs.Prelude.{position}
 use Rattle.std.specs.Cmp.Lexicographic.{pointwise}
 use Rattle.std.proofs.lemmas.List.{map-append}
-use Rattle.sig_core.specs.Names.{same_name, place_of, AreDistinct}
+use Rattle.sig_core.specs.Names.{same_name}
 use Rattle.sig_core.proofs.NameLemmas.{position-map, none_passes, AreDistinct-push}
 use Rattle.sig_core.proofs.names.NameTable.add.Goals as goal
 

@@ -1,4 +1,4 @@
-use Rattle.std.proofs.Common.{◌≡◌, [], ◌∷◌, ◌++◌, ◌∙◌, sym, None}
+use Rattle.std.proofs.Common.{◌≡◌, ◌∙◌, sym, None}
 use Rattle.sig_core.specs.Signatures.{Declarations}
 use Rattle.sig_core.specs.Refusals.{type_refusal}
 use Rattle.sig_core.proofs.SignatureLemmas.{is_none, IsWellFormed-with_type}

@@ -1,10 +1,9 @@
-use Rattle.std.proofs.Common.{◌≡◌, ◌∙◌, sym, ap, arith, length}
+use Rattle.std.proofs.Common.{◌∙◌, sym, ap, arith, length}
 use Rattle.term_core.specs.Banks.{tree_of, IsLive}
 use Rattle.term_core.specs.Nodes.{trees_of}
 use Rattle.term_core.specs.Terms.{term_cmp}
 use Rattle.term_core.proofs.Compare.{itself_equal}
-use Rattle.term_core.proofs.Growth.{not_there}
-use Rattle.term_core.proofs.NodeReads.{live_read, live_in}
+use Rattle.term_core.proofs.NodeReads.{live_read}
 use Rattle.term_core.proofs.Order.{same_term}
 use Rattle.term_core.proofs.bank.Bank.compare.Goals as goal
 

@@ -1,16 +1,13 @@
-use Rattle.std.proofs.Common.{◌≡◌, ◌+◌, ◌<◌, ◌^◌, [], ◌∷◌, ◌++◌, map, sum, length, get_or, All, Contains, List, sym, ap, subst, ◌∙◌, arith, rules}
-use Rattle.std.proofs.lemmas.List.{get_or_default, get_or_push, length_push}
-use Rattle.std.proofs.lemmas.List.Elements.{All-weaker, All-same}
-use Rattle.term_core.specs.declared.ids.TermId.{TermId}
-use Rattle.term_core.specs.declared.node.Node.{Node}
+use Rattle.std.proofs.Common.{◌≡◌, ◌<◌, ◌^◌, [], ◌∷◌, ◌++◌, map, length, Contains, sym, ap, subst, ◌∙◌, arith}
+use Rattle.std.proofs.lemmas.List.{get_or_push, length_push}
 use Rattle.term_core.specs.declared.tree.Tree.{Tree}
-use Rattle.term_core.specs.Banks.{tree_of, leaf}
-use Rattle.term_core.specs.Nodes.{HasNode, IsBank, term_over, trees_of}
-use Rattle.term_core.specs.Terms.{node, size}
-use Rattle.term_core.proofs.Growth.{Grown, grown}
+use Rattle.term_core.specs.Banks.{Keeps, tree_of, leaf}
+use Rattle.term_core.specs.Nodes.{trees_of}
+use Rattle.term_core.specs.Terms.{node}
+use Rattle.term_core.proofs.Growth.{Grown, Keeps-push, grown}
 use Rattle.term_core.proofs.NodeReads.{live_in, live_read, found_live, found_term, found_there}
 use Rattle.term_core.proofs.Order.{size-node}
-use Rattle.term_core.proofs.Trees.{length-trees_of, term_at, trees_of-push}
+use Rattle.term_core.proofs.Trees.{length-trees_of}
 use Rattle.term_core.proofs.bank.Bank.intern.Goals as goal
 use Rattle.term_core.proofs.bank.Bank.intern.Goals.{In_ok-push}
 
@@ -70,3 +67,8 @@ returns-clause-fresh c = λ absent. trees_after (goal.at.returns-clause-fresh c)
 
 pub returns-clause-each_once : goal.returns-clause-each_once
 returns-clause-each_once c = (after (goal.at.returns-clause-each_once c).In_ok-push).bank.each_once
+
+pub returns-clause-kept : goal.returns-clause-kept
+returns-clause-kept c =
+    let p = (goal.at.returns-clause-kept c).In_ok-push in
+    subst (Keeps p.args.self.now) (sym (trees_after p)) (Keeps-push p.args.self.now (put_last p))
