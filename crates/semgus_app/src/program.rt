@@ -61,15 +61,15 @@ pub fn run<F: Files, S: Sink>(alloc: Global, words: &Words, files: &mut F, out: 
     // for which every constraint has a derivation within the height, and valid derivations are printed.
     ensures found { result ≡ Status.Found → NoneRose (F.open_faults files.old) (F.open_faults files.new) (F.read_faults files.old) (F.read_faults files.new) (S.faults out.old) (S.faults out.new)
         × ((file bytes : List ℕ) (height size : ℕ) → IsSolve words.now file height size → F.held files.old file ≡ Some (Some bytes) →
-            (parts : Parts) × (text : List ℕ) × States (take 1048577 bytes) parts × IsAnswerText parts height size text × Grows (S.written out.old) (S.written out.new) text) }
+        (parts : Parts) × (text : List ℕ) × States (take 1048577 bytes) parts × IsAnswerText parts height size text × Grows (S.written out.old) (S.written out.new) text) }
     // `none` is printed only where no term of a size within the bound has them.
     ensures no_term { result ≡ Status.NoTerm → NoneRose (F.open_faults files.old) (F.open_faults files.new) (F.read_faults files.old) (F.read_faults files.new) (S.faults out.old) (S.faults out.new)
         × ((file bytes : List ℕ) (height size : ℕ) → IsSolve words.now file height size → F.held files.old file ≡ Some (Some bytes) →
-            (parts : Parts) × States (take 1048577 bytes) parts × IsAnswer parts height size None × Grows (S.written out.old) (S.written out.new) (codes "none\n")) }
+        (parts : Parts) × States (take 1048577 bytes) parts × IsAnswer parts height size None × Grows (S.written out.old) (S.written out.new) (codes "none\n")) }
     ensures refused { (which : Which) (fault : Fault) → result ≡ Status.Refused which fault → NoneRose (F.open_faults files.old) (F.open_faults files.new) (F.read_faults files.old) (F.read_faults files.new) (S.faults out.old) (S.faults out.new)
         × (result ≡ whole_refusal)
         × ((file bytes : List ℕ) (height size : ℕ) → IsSolve words.now file height size → F.held files.old file ≡ Some (Some bytes) →
-            StatesNothing (take 1048577 bytes) × Grows (S.written out.old) (S.written out.new) (codes "refused 0 13\n")) }
+        StatesNothing (take 1048577 bytes) × Grows (S.written out.old) (S.written out.new) (codes "refused 0 13\n")) }
     // Where no count rose and memory wasn't refused, the answer comes: `none` exactly where there is none.
     ensures answered { (file bytes : List ℕ) (height size : ℕ) (parts : Parts) (answer : Option Tree) → IsSolve words.now file height size → F.held files.old file ≡ Some (Some bytes) →
         States (take 1048577 bytes) parts → IsAnswer parts height size answer →

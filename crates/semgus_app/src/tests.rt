@@ -96,12 +96,48 @@ fn files_are_answered(rt: HostRuntime) -> Result<(), Fail> {
     files.add("twice.sl", TWICE.as_bytes())?;
     files.add("loop.sl", LOOP.as_bytes())?;
     files.add("empty.sl", b"")?;
-    check(&rt, "solve tiny.sl 1 1", &mut files, Status::Found, TINY_ANSWER)?;
-    check(&rt, "solve two.sl 1 1", &mut files, Status::NoTerm, "none\n")?;
-    check(&rt, "solve twice.sl 1 1", &mut files, Status::Found, TWICE_ANSWER)?;
-    check(&rt, "solve loop.sl 4 1", &mut files, REFUSED, "refused 0 13\n")?;
-    check(&rt, "solve empty.sl 1 1", &mut files, REFUSED, "refused 0 13\n")?;
-    check(&rt, "solve absent.sl 1 1", &mut files, Status::CannotOpen, "cannot open absent.sl\n")?;
+    check(
+        &rt,
+        "solve tiny.sl 1 1",
+        &mut files,
+        Status::Found,
+        TINY_ANSWER,
+    )?;
+    check(
+        &rt,
+        "solve two.sl 1 1",
+        &mut files,
+        Status::NoTerm,
+        "none\n",
+    )?;
+    check(
+        &rt,
+        "solve twice.sl 1 1",
+        &mut files,
+        Status::Found,
+        TWICE_ANSWER,
+    )?;
+    check(
+        &rt,
+        "solve loop.sl 4 1",
+        &mut files,
+        REFUSED,
+        "refused 0 13\n",
+    )?;
+    check(
+        &rt,
+        "solve empty.sl 1 1",
+        &mut files,
+        REFUSED,
+        "refused 0 13\n",
+    )?;
+    check(
+        &rt,
+        "solve absent.sl 1 1",
+        &mut files,
+        Status::CannotOpen,
+        "cannot open absent.sl\n",
+    )?;
     Ok(())
 }
 
@@ -136,8 +172,20 @@ fn a_take_that_fails_is_a_read_fault(rt: HostRuntime) -> Result<(), Fail> {
         files.add("tiny.sl", TINY.as_bytes())?;
         files.piece(piece);
         files.fail_take(failing)?;
-        check(&rt, "solve tiny.sl 1 1", &mut files, Status::ReadFault, "read fault\n")?;
-        check(&rt, "solve tiny.sl 1 1", &mut files, Status::Found, TINY_ANSWER)?;
+        check(
+            &rt,
+            "solve tiny.sl 1 1",
+            &mut files,
+            Status::ReadFault,
+            "read fault\n",
+        )?;
+        check(
+            &rt,
+            "solve tiny.sl 1 1",
+            &mut files,
+            Status::Found,
+            TINY_ANSWER,
+        )?;
     }
     Ok(())
 }

@@ -58,7 +58,11 @@ fn type_name(form: &Sexpr) -> Option<&[u8]>
     let [name, arity] = items(pair)? else {
         return None;
     };
-    if is_numeral(b"0", arity) { symbol(name) } else { None }
+    if is_numeral(b"0", arity) {
+        symbol(name)
+    } else {
+        None
+    }
 }
 
 /// The forms of the one list of a list.
