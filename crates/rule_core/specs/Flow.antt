@@ -9,17 +9,20 @@ use Rattle.sig_core.specs.declared.value.Sort.TheVariants as sort
 use Rattle.sig_core.specs.declared.ids.TypeId.{TypeId}
 use Rattle.sig_core.specs.declared.ids.ConId.{ConId}
 use Rattle.sig_core.specs.declared.signature.Constructor.{Constructor}
+use Rattle.sig_core.specs.declared.signature.Kind.{Kind}
 use Rattle.expr_core.specs.declared.expr.Expr.{Expr}
 use Rattle.expr_core.specs.declared.expr.Expr.TheVariants.{Slot}
 use Rattle.expr_core.specs.declared.expr.Expr.TheOpen.{Expr-F}
 use Rattle.expr_core.specs.declared.expr.Expr.{out-Expr}
 use Rattle.term_core.specs.declared.tree.Tree.{Tree}
+use Rattle.rule_core.specs.declared.flow.FlowFault.{FlowFault}
 use Rattle.rule_core.specs.declared.rule.Who.{Who}
 use Rattle.rule_core.specs.declared.rule.Who.TheVariants.{Own, Child}
 use Rattle.rule_core.specs.declared.rule.Call.{Call}
 use Rattle.rule_core.specs.declared.rule.Atom.{Atom}
 use Rattle.rule_core.specs.declared.rule.Atom.TheVariants as atom
 use Rattle.rule_core.specs.declared.rule.Rule.{Rule}
+use Rattle.rule_core.specs.declared.rule.Var.{Var}
 use Rattle.sig_core.specs.Lists.{numbers_from}
 use Rattle.sig_core.specs.Values.{same_sort}
 use Rattle.expr_core.specs.Expressions.{sort_in, slots_in}
@@ -33,14 +36,22 @@ is_in known slot = list_any (λ k. nat_eq k slot) known
 abbrev pub is_known : List ℕ → Expr → Bool
 is_known known e = list_all (is_in known) (slots_in e)
 
--- the slot of a bare variable
+-- the slot of an expression that is a bare variable
 abbrev pub bare_slot : Expr-F Expr → Option ℕ
 bare_slot (Expr-F.Slot slot) = Some slot
 bare_slot _ = None
 
+-- the expression is this slot's bare variable
+abbrev pub names_slot : Expr → ℕ → Bool
+names_slot e slot = option_map_or (λ k. nat_eq k slot) (bare_slot (out-Expr e)) false
+
+-- the known slots and this one
+abbrev pub with_slot : List ℕ → ℕ → List ℕ
+with_slot known slot = if is_in known slot then known else known ++ slot ∷ []
+
 -- the known slots after an output argument, if it is a bare variable or over known slots
 abbrev pub known_after_output : List ℕ → Option ℕ → Bool → Option (List ℕ)
-known_after_output known (Some slot) _ = Some (known ++ slot ∷ [])
+known_after_output known (Some slot) _ = Some (with_slot known slot)
 known_after_output known None true = Some known
 known_after_output known None false = None
 
@@ -73,50 +84,45 @@ type_at None who = None
 type_at (Some c) Own = Some c.owner
 type_at (Some c) (Child i) = slice_get c.args i
 
-abbrev pub fits_call : Declarations → Rule → Call → Bool
-fits_call sig rule call =
+-- a call in a rule of the constructor, whose slots have the sorts of the scope
+abbrev pub fits_call : Declarations → ConId → List Sort → Call → Bool
+fits_call sig con scope call =
     let kinds = kinds_of sig call.relation in
-    let sorts = plain_sorts kinds in
-    same_type (term_type kinds) (type_at (slice_get sig.constructors rule.con.0) call.who)
-    && pointwise (has_sort (slot_sorts sig rule)) call.inputs (inputs_of kinds sorts)
-    && pointwise (has_sort (slot_sorts sig rule)) call.outputs (outputs_of kinds sorts)
+    same_type (term_type kinds) (type_at (slice_get sig.constructors con.0) call.who)
+    && (pointwise (has_sort scope) call.inputs (inputs_of kinds (plain_sorts kinds))
+    && pointwise (has_sort scope) call.outputs (outputs_of kinds (plain_sorts kinds)))
 
 -- The atom's relation, child, slots, numbers of arguments, types and sorts fit, where these slots are known
 -- before it. A slot that is known already can't be filled.
 abbrev pub fits : Declarations → Rule → List ℕ → Atom → Bool
-fits sig rule known (atom.Call call) = fits_call sig rule call
+fits sig rule known (atom.Call call) = fits_call sig rule.con (slot_sorts sig rule) call
 fits sig rule known (atom.Fill slot e) = not (is_in known slot) && option_map_or (has_sort (slot_sorts sig rule) e) (slice_get (slot_sorts sig rule) slot) false
 fits sig rule known (atom.Test e) = has_sort (slot_sorts sig rule) e sort.Bool
-
-pub record Fault : Type 0 where
-  pub reason : ℕ
-  pub atom : ℕ
-  pub slot : ℕ
 
 -- the first slot of a list that is not known
 abbrev pub unknown_in : List ℕ → List ℕ → Option ℕ
 unknown_in known slots = find (λ slot. not (is_in known slot)) slots
 
-abbrev pub existential_slots : Declarations → Rule → List ℕ
-existential_slots sig rule = numbers_from (length (plain_sorts (kinds_of sig rule.relation))) rule.more
+abbrev pub existential_slots : List Kind → List Var → List ℕ
+existential_slots kinds more = numbers_from (length (plain_sorts kinds)) more
 
-abbrev pub fault_at : ℕ → ℕ → Option ℕ → Option Fault
+abbrev pub fault_at : ℕ → ℕ → Option ℕ → Option FlowFault
 fault_at reason n None = None
 fault_at reason n (Some slot) = Some (record { reason = reason; atom = n; slot = slot })
 
 -- after the last atom: the first unknown output, else the first unknown existential
-abbrev pub end_fault : Declarations → Rule → List ℕ → ℕ → Option Fault
-end_fault sig rule known n = option_or (fault_at 2 n (unknown_in known (output_slots (kinds_of sig rule.relation)))) (fault_at 3 n (unknown_in known (existential_slots sig rule)))
+abbrev pub end_fault : List Kind → List Var → List ℕ → ℕ → Option FlowFault
+end_fault kinds more known n = option_or (fault_at 2 n (unknown_in known (output_slots kinds))) (fault_at 3 n (unknown_in known (existential_slots kinds more)))
 
 -- the first fault from the atom with number n on, where these slots are known before it
-abbrev pub fault_from : Declarations → Rule → List ℕ → ℕ → List Atom → Option Fault
-fault_from sig rule known n [] = end_fault sig rule known n
+abbrev pub fault_from : Declarations → Rule → List ℕ → ℕ → List Atom → Option FlowFault
+fault_from sig rule known n [] = end_fault (kinds_of sig rule.relation) rule.more known n
 fault_from sig rule known n (a ∷ atoms) =
     if fits sig rule known a
     then option_map_or (λ more. fault_from sig rule more (suc n) atoms) (known_after known a) (fault_at 1 n (Some 0))
     else fault_at 4 n (Some 0)
 
-abbrev pub flow_fault : Declarations → Rule → Option Fault
+abbrev pub flow_fault : Declarations → Rule → Option FlowFault
 flow_fault sig rule = fault_from sig rule (input_slots (kinds_of sig rule.relation)) 0 rule.atoms
 
 -- the facts of an instance's calls, where each has one
@@ -126,21 +132,23 @@ call_facts sig t slots rule = map (call_fact sig t slots) (calls_of rule.atoms)
 abbrev pub input_values : Declarations → Rule → List Value → List Value
 input_values sig rule slots = inputs_of (kinds_of sig rule.relation) slots
 
--- equal inputs and equal facts of the calls leave one instance
+-- two instances, in which each call has a fact, are equal where their inputs and the facts of their calls are
 pub record IsDetermined (sig : Declarations) (rule : Rule) : Type 0 where
-  pub same : (t : Tree) (s s' : List Value) → IsInstance sig rule s → IsInstance sig rule s' →
+  pub same : (t t' : Tree) (s s' : List Value) → IsInstance sig rule s → IsInstance sig rule s' →
       input_values sig rule s ≡ input_values sig rule s' →
       list_all is_some (call_facts sig t s rule) ≡ true →
-      call_facts sig t s rule ≡ call_facts sig t s' rule → s ≡ s'
-
--- exactly the input variables of the rule's relation, in order
-abbrev pub TakesInputs : Declarations → Rule → Call → Type 0
-TakesInputs sig rule call = call.inputs ≡ map Slot (input_slots (kinds_of sig rule.relation))
+      call_facts sig t s rule ≡ call_facts sig t' s' rule → s ≡ s'
 
 abbrev pub calls_on : Who → ℕ → Bool
 calls_on Own i = true
 calls_on (Child k) i = nat_eq k i
 
--- in each rule of c, each call on child i and on the term itself takes the relation's inputs
+-- a call on child i or on the term itself takes exactly the input variables of the rule's relation, in order
+abbrev pub TakesInputs : Declarations → Rule → ℕ → Atom → Type 0
+TakesInputs sig rule i (atom.Call call) = calls_on call.who i ≡ true → call.inputs ≡ map Slot (input_slots (kinds_of sig rule.relation))
+TakesInputs sig rule i (atom.Fill slot e) = Unit {0}
+TakesInputs sig rule i (atom.Test e) = Unit {0}
+
+-- that is so in each rule of c
 abbrev pub HandsOn : Declarations → List Rule → ConId → ℕ → Type 0
-HandsOn sig rules c i = All (λ rule. rule.con ≡ c → All (λ call. calls_on call.who i ≡ true → TakesInputs sig rule call) (calls_of rule.atoms)) rules
+HandsOn sig rules c i = All (λ rule. rule.con ≡ c → All (TakesInputs sig rule i) rule.atoms) rules

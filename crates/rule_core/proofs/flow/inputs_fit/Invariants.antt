@@ -1,0 +1,10 @@
+use Rattle.std.proofs.Common.{◌≡◌, ◌≤◌, ◌+◌, ◌++◌, map, drop, take, length, All, slice_get}
+use Rattle.sig_core.specs.declared.signature.Param.{Param}
+use lib.Pointwise.{pointwise}
+use Rattle.sig_core.specs.Signatures.{plain_sorts, inputs_of}
+use Rattle.rule_core.specs.Flow.{has_sort}
+use Rattle.rule_core.specs.Rulebooks.{IsSmall}
+use Rattle.rule_core.proofs.flow.inputs_fit.Given as goal
+
+abbrev pub invariant-loop-param : goal.invariant-loop-param
+invariant-loop-param l = (All IsSmall l.rest) × (pointwise (has_sort l.scope) l.rest (inputs_of (map (λ (p : Param). p.kind) (drop l.param-index l.params)) (plain_sorts (map (λ (p : Param). p.kind) (drop l.param-index l.params)))) ≡ pointwise (has_sort l.scope) l.inputs (inputs_of (map (λ (p : Param). p.kind) l.params) (plain_sorts (map (λ (p : Param). p.kind) l.params))))

@@ -1,0 +1,128 @@
+ghost use Rattle.std.specs.Prelude.{◌≡◌, ◌<◌, ◌≤◌, ◌++◌, [], ◌∷◌, ◌↔◌, IsTrue, None, length, slice_get, IfErr, OnOk, OnErr};
+ghost use Rattle.std.specs.Option.{option_copied};
+ghost use Rattle.rule_core.specs.Flow.{flow_fault, IsDetermined, HandsOn};
+ghost use Rattle.rule_core.specs.Rulebooks.{rules_for, rules_of, IsRuleOf, IsDue};
+
+use crate::flow::{AddError, flow_fault};
+use crate::handing::rule_hands_on;
+use crate::rule::Rule;
+use items::Items;
+use sig_core::{ConId, RelId, Signature};
+use std::alloc::Global;
+use std::marker::Model;
+
+/// The rules of a file in order of adding. Each has passed data flow.
+#[derive(Debug, Drop)]
+pub struct Rulebook {
+    alloc: Global,
+    rules: Items<Rule>,
+}
+
+impl Model for Rulebook {
+    ghost use Rattle.std.specs.Prelude.{List, length, ◌≤◌};
+    ghost use Rattle.rule_core.specs.declared.rule.Rule.{Rule};
+    ghost use Rattle.std.specs.Coded.{codes};
+    ghost use Rattle.expr_core.specs.contracts.expr.Expr as expr;
+
+    ghost Value = { List Rule };
+
+    ghost coded = { Prim.hlevel (codes, expr.the_row.coded) };
+
+    ghost view = { λ b. b.rules };
+
+    ghost invariant = { λ b. length b.rules ≤ 16384 };
+}
+
+impl Rulebook {
+    pub fn new(alloc: Global) -> Rulebook
+        ensures { result ≡ [] }
+    {
+        Rulebook {
+            alloc,
+            rules: Items::new(alloc),
+        }
+    }
+
+    /// How many rules stand, at most 16,384.
+    pub fn len(&self) -> u32
+        ensures value { result ≡ length self.now }
+        ensures few { length self.now ≤ 16384 }
+    {
+        self.rules.len() as u32
+    }
+
+    /// Puts a rule last. `Flow` exactly where data flow fails, with the first fault.
+    pub fn add(&mut self, signature: &Signature, rule: Rule) -> Result<(), AddError>
+        requires room { length self.old < 16384 }
+        requires rule { IsRuleOf signature.now rule }
+        ensures flows { OnOk result (flow_fault signature.now rule ≡ None) }
+        ensures fault { IfErr result (IsDue (flow_fault signature.now rule)) }
+        ensures added { OnOk result (self.new ≡ self.old ++ rule ∷ []) }
+        ensures unchanged { OnErr result (self.new ≡ self.old) }
+        ensures determined { OnOk result (IsDetermined signature.now rule) }
+    {
+        if let Some(fault) = flow_fault(self.alloc, signature, &rule)? {
+            return Err(AddError::Flow(fault));
+        }
+        self.rules.push(rule)?;
+        Ok(())
+    }
+
+    /// How many rules the relation has for the constructor.
+    pub fn count(&self, relation: RelId, con: ConId) -> u32
+        ensures { result ≡ length (rules_for self.now relation con) }
+    {
+        let mut count = 0;
+        for rule in self.rules.as_slice() {
+            if rule.relation == relation && rule.con == con {
+                count += 1;
+            }
+        }
+        count
+    }
+
+    /// The rule with this number among those that the relation has for the constructor, from 0.
+    pub fn rule(&self, relation: RelId, con: ConId, k: u32) -> Option<&Rule>
+        ensures { option_copied result ≡ slice_get (rules_for self.now relation con) k }
+    {
+        let mut left = k;
+        for rule in self.rules.as_slice() {
+            if rule.relation == relation && rule.con == con {
+                if left == 0 {
+                    return Some(rule);
+                }
+                left -= 1;
+            }
+        }
+        None
+    }
+
+    /// The rule with this number among all rules of the relation, from 0.
+    pub fn of_relation(&self, relation: RelId, k: u32) -> Option<&Rule>
+        ensures { option_copied result ≡ slice_get (rules_of self.now relation) k }
+    {
+        let mut left = k;
+        for rule in self.rules.as_slice() {
+            if rule.relation == relation {
+                if left == 0 {
+                    return Some(rule);
+                }
+                left -= 1;
+            }
+        }
+        None
+    }
+
+    /// Whether the constructor hands on at the child: in each of its rules, each call on the child and each call on
+    /// the term itself takes exactly the inputs of the rule's relation, in order. A constructor without rules does.
+    pub fn hands_on(&self, signature: &Signature, con: ConId, i: usize) -> bool
+        ensures { IsTrue result ↔ HandsOn signature.now self.now con i }
+    {
+        for rule in self.rules.as_slice() {
+            if rule.con == con && !rule_hands_on(signature, rule, i) {
+                return false;
+            }
+        }
+        true
+    }
+}
