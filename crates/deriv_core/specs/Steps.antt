@@ -11,6 +11,8 @@ use Rattle.sig_core.specs.Signatures.{Declarations}
 use Rattle.rule_core.specs.Instances.{Fact, Holds, slot_sorts, param_values, calls_of, call_fact}
 use Rattle.rule_core.specs.Rulebooks.{rules_for}
 use Rattle.problem_core.specs.Derivations.{IsLeastHeight}
+use Rattle.term_core.specs.Banks.{tree_of}
+use Rattle.deriv_core.specs.declared.steps.Step.{Step}
 
 -- a step of a derivation: a relation, a term, the number of a rule among those of the relation and the term's
 -- constructor, the values of all slots, and the steps of the calls
@@ -20,6 +22,13 @@ pub record TreeStep : Type 0 where
   pub rule : ℕ
   pub values : List Value
   pub premises : List ℕ
+
+-- the steps with the terms that their ids stand for in this bank
+abbrev pub tree_step : List Tree → Step → TreeStep
+tree_step bank step = record { relation = step.relation; node = tree_of bank step.node; rule = step.rule; values = step.values; premises = map (λ p. p.0) step.premises }
+
+abbrev pub tree_steps : List Tree → List Step → List TreeStep
+tree_steps bank steps = map (tree_step bank) steps
 
 -- the step's rule, if there is one of its number
 abbrev pub rule_of : List Rule → TreeStep → Option Rule

@@ -23,9 +23,13 @@ productions_from k first t (c ∷ cs) =
 abbrev pub types_in_order : Declarations → TypeId → List TypeId
 types_in_order sig first = first ∷ map (λ t. record { 0 = t }) (filter (λ t. not (nat_eq t first.0)) (numbers_from 0 sig.types))
 
--- a nonterminal for each type, named as the type, with productions for these constructors
+-- a type's nonterminal: it is named as the type, and has a production for each constructor of the type
+abbrev pub nonterminal_over : Declarations → TypeId → List Constructor → TypeId → Nonterminal
+nonterminal_over sig first constructors t = record { name = slice_index_or sig.types t.0 []; owner = t; productions = productions_from 0 first t constructors }
+
+-- a nonterminal for each type, with productions for these constructors
 abbrev pub whole_over : Declarations → TypeId → List Constructor → List Nonterminal
-whole_over sig first constructors = map (λ t. record { name = slice_index_or sig.types t.0 []; owner = t; productions = productions_from 0 first t constructors }) (types_in_order sig first)
+whole_over sig first constructors = map (nonterminal_over sig first constructors) (types_in_order sig first)
 
 -- the grammar of all terms
 abbrev pub whole : Declarations → TypeId → List Nonterminal

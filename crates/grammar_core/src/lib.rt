@@ -1,8 +1,14 @@
-//! Grammars of terms, and membership.
+//! Grammars of terms: membership, and which nonterminals the start leads to.
 #![tactic(auto)]
 
+mod grammar;
 mod ids;
+mod marks;
+mod members;
+mod parts;
 mod production;
+mod whole;
 
+pub use grammar::{Grammar, GrammarError};
 pub use ids::{NtId, NtIds};
-pub use production::{Nonterminal, Production};
+pub use production::Production;

@@ -1,2 +1,4 @@
 pub mod Derivations
+pub mod Examples
+pub mod Laws
 pub mod Problems

@@ -1,10 +1,10 @@
 -- Steps of loops over the arguments of a call and the parameters of its relation.
-use Rattle.std.proofs.Common.{◌≡◌, ℕ, ◌+◌, ◌<◌, Bool, true, ◌&&◌, List, [], ◌∷◌, length, map, drop, get_or, sym, ap, ◌∙◌, add-one}
+use Rattle.std.proofs.Common.{◌≡◌, ℕ, ◌+◌, ◌<◌, Bool, true, ◌&&◌, List, ◌∷◌, length, map, drop, get_or, sym, ap, ◌∙◌}
 use lib.Pointwise.{pointwise}
 use Rattle.std.proofs.lemmas.List.{drop_more}
 use Rattle.sig_core.specs.declared.value.Sort.{Sort}
 use Rattle.sig_core.specs.declared.signature.Kind.{Kind}
-use Rattle.sig_core.specs.declared.signature.Kind.TheVariants.{Term, Input, Output}
+use Rattle.sig_core.specs.declared.signature.Kind.TheVariants.{Input, Output}
 use Rattle.sig_core.specs.declared.signature.Param.{Param}
 use Rattle.expr_core.specs.declared.expr.Expr.{Expr}
 use Rattle.sig_core.specs.Signatures.{plain_sorts, inputs_of, outputs_of}

@@ -1,5 +1,5 @@
 -- Arguments that are given bare variables.
-use Rattle.std.proofs.Common.{◌≡◌, ℕ, Bool, true, false, ◌&&◌, Option, Some, None, List, [], ◌∷◌, map, nat_eq, refl, sym, ap, ap₂, ◌∙◌, eqb-true, eq-eqb}
+use Rattle.std.proofs.Common.{◌≡◌, ℕ, Bool, true, false, ◌&&◌, Option, Some, None, List, [], ◌∷◌, map, nat_eq, refl, ap, ap₂, ◌∙◌, eqb-true, eq-eqb}
 use Rattle.std.specs.Option.{option_map_or}
 use lib.Pointwise.{pointwise}
 use Rattle.expr_core.specs.declared.expr.Expr.{Expr, out-Expr}

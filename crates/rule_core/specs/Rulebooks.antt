@@ -1,5 +1,5 @@
 -- The rules of a book, and what it asks of a rule.
-use Rattle.std.specs.Prelude.{◌≡◌, ℕ, ◌^◌, ◌<◌, ◌≤◌, ◌&&◌, nat_eq, Option, Some, List, filter, length, All}
+use Rattle.std.specs.Prelude.{◌≡◌, ◌^◌, ◌<◌, ◌≤◌, ◌&&◌, nat_eq, Option, Some, List, filter, length, All}
 use Rattle.sig_core.specs.declared.ids.ConId.{ConId}
 use Rattle.sig_core.specs.declared.ids.RelId.{RelId}
 use Rattle.sig_core.specs.Signatures.{Declarations, kinds_of, term_type, owner_of}

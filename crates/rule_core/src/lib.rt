@@ -5,6 +5,8 @@ mod flow;
 mod handing;
 mod rule;
 mod rulebook;
+#[cfg(test)]
+mod tests;
 
 pub use flow::{AddError, FlowFault};
 pub use rule::{Atom, Atoms, Call, Names, Rule, Var, Vars, Who};

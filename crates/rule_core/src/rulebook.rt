@@ -87,7 +87,7 @@ impl Rulebook {
     {
         let mut left = k;
         for rule in self.rules.as_slice() {
-            if rule.relation == relation && rule.con == con {
+            if rule.con == con && rule.relation == relation {
                 if left == 0 {
                     return Some(rule);
                 }

@@ -1,2 +1,9 @@
+pub mod Constants
+pub mod Derivation
+pub mod Deriving
 pub mod Reading
+pub mod Ruling
+pub mod Solving
 pub mod Texts
+pub mod ValueEq
+pub mod Outcomes

@@ -10,7 +10,7 @@ use Rattle.semgus_app.specs.declared.status.Which.TheVariants as which
 use Rattle.semgus_io.specs.Counts.{Rises}
 use Rattle.semgus_app.specs.Dues.{cannot_open_line, read_fault_line}
 use Rattle.semgus_app.specs.Statements.{States, StatesNothing}
-use Rattle.semgus_app.specs.Derivings.{IsDerivation}
+use Rattle.deriv_core.specs.Derivings.{IsDerivation}
 use Rattle.semgus_app.specs.AnswerText.{answer_text}
 
 -- The text is that of the first solving term, with derivations of each constraint on it: valid within the height,

@@ -1,6 +1,11 @@
 pub mod Commands
 pub mod Constants
+pub mod Derivations
 pub mod Dues
+pub mod AnswerText
+pub mod FileDues
 pub mod First
+pub mod Searches
 pub mod Shapes
+pub mod Statements
 pub mod Statuses

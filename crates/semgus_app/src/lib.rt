@@ -2,11 +2,13 @@
 #![tactic(auto)]
 
 mod command;
+mod derive;
 mod first;
 mod judge;
 mod problem;
 mod program;
 mod read;
+mod search;
 mod shape;
 mod status;
 #[cfg(test)]

@@ -117,12 +117,25 @@ fn due_of<F: Files>(alloc: Global, file: &str, files: &mut F) -> Result<Due, All
     ensures taken { F.taken files.new ≤ F.taken files.old + 1048577 }
     ensures held { F.held files.new ≡ F.held files.old }
 {
-    if files.begin(file).is_err() {
-        return cannot_open(alloc, file);
+    match files.begin(file) {
+        Ok(()) => Ok(due_of_begun(alloc, files)?),
+        Err(_) => Ok(cannot_open(alloc, file)?),
     }
+}
+
+/// What is due for the begun file.
+fn due_of_begun<F: Files>(alloc: Global, files: &mut F) -> Result<Due, AllocError>
+    ensures cause { IfOk result (λ d. (file : List ℕ) → HasCause d.status d.text file
+        (F.open_faults files.old) (F.open_faults files.new) (F.read_faults files.old) (F.read_faults files.new)) }
+    ensures judged { IfOk result (λ d. IsJudged d.status → (bytes : List ℕ) (height size : ℕ) → F.left files.old ≡ Some bytes → 1 ≤ height → 1 ≤ size →
+        IsDue (take 1048577 bytes) height size d.status d.text) }
+    ensures open_faults { F.open_faults files.new ≡ F.open_faults files.old }
+    ensures taken { F.taken files.new ≤ F.taken files.old + 1048577 }
+    ensures held { F.held files.new ≡ F.held files.old }
+{
     match read_to_limit(alloc, files, FILE_LIMIT) {
         Ok(bytes) => Ok(judge(alloc, bytes.as_slice())?),
-        Err(ReadError::Failed) => read_fault(alloc),
+        Err(ReadError::Failed) => Ok(read_fault(alloc)?),
         Err(ReadError::Memory) => Err(AllocError),
     }
 }

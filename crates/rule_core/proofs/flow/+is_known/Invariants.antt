@@ -1,4 +1,4 @@
-use Rattle.std.proofs.Common.{◌≡◌, ◌≤◌, ◌+◌, ◌++◌, map, drop, take, length, All, slice_get}
+use Rattle.std.proofs.Common.{◌≡◌, drop}
 use Rattle.std.specs.List.{list_all}
 use Rattle.rule_core.specs.Flow.{is_known}
 use Rattle.rule_core.proofs.flow.+is_known.Given as goal

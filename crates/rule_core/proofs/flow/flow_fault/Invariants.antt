@@ -1,4 +1,4 @@
-use Rattle.std.proofs.Common.{◌≡◌, ◌≤◌, ◌+◌, ◌++◌, map, drop, take, length, All, slice_get}
+use Rattle.std.proofs.Common.{◌≡◌, drop}
 use Rattle.rule_core.specs.Flow.{fault_from, flow_fault}
 use Rattle.rule_core.proofs.flow.flow_fault.Given as goal
 

@@ -1,4 +1,4 @@
-use Rattle.std.proofs.Common.{◌≡◌, ◌≤◌, ◌+◌, ◌++◌, map, drop, take, length, All, slice_get}
+use Rattle.std.proofs.Common.{◌≡◌, drop}
 use Rattle.rule_core.specs.Flow.{known_after_outputs}
 use Rattle.rule_core.proofs.flow.learn_outputs.Given as goal
 

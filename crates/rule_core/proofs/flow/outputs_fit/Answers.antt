@@ -1,4 +1,4 @@
-use Rattle.std.proofs.Common.{◌≡◌, ◌∷◌, ◌∙◌, sym, true}
+use Rattle.std.proofs.Common.{◌≡◌, ◌∙◌, sym, true}
 use Rattle.std.proofs.lemmas.List.Elements.{All-rest}
 use Rattle.sig_core.specs.declared.signature.Kind.TheVariants.{Output}
 use Rattle.rule_core.specs.Flow.{has_sort}

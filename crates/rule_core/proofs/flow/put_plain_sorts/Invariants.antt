@@ -1,4 +1,4 @@
-use Rattle.std.proofs.Common.{◌≡◌, ◌≤◌, ◌+◌, ◌++◌, map, drop, take, length, All, slice_get}
+use Rattle.std.proofs.Common.{◌≡◌, ◌++◌, map, drop}
 use Rattle.sig_core.specs.declared.signature.Param.{Param}
 use Rattle.sig_core.specs.Signatures.{plain_sorts}
 use Rattle.rule_core.proofs.flow.put_plain_sorts.Given as goal

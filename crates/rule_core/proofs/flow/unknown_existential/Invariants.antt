@@ -1,4 +1,4 @@
-use Rattle.std.proofs.Common.{◌≡◌, ◌≤◌, ◌+◌, ◌++◌, map, drop, take, length, All, slice_get}
+use Rattle.std.proofs.Common.{◌≡◌, ◌+◌, drop}
 use Rattle.sig_core.specs.Lists.{numbers_from}
 use Rattle.rule_core.specs.Flow.{unknown_in}
 use Rattle.rule_core.proofs.flow.unknown_existential.Given as goal

@@ -1,4 +1,4 @@
-use Rattle.std.proofs.Common.{◌≡◌, true, sym, ◌∙◌}
+use Rattle.std.proofs.Common.{◌≡◌, sym, ◌∙◌}
 use lib.Pointwise.{pointwise}
 use Rattle.sig_core.specs.Signatures.{kinds_of, input_slots}
 use Rattle.rule_core.specs.Flow.{names_slot}

@@ -1,4 +1,4 @@
-use Rattle.std.proofs.Common.{◌≡◌, subst, All, take, ap, sym, refl, ◌∙◌}
+use Rattle.std.proofs.Common.{◌≡◌, subst, take, sym, refl, ◌∙◌}
 use Rattle.std.proofs.lemmas.List.{take_all}
 use Rattle.std.proofs.lemmas.List.Elements.{All-more, All-same}
 use Rattle.rule_core.specs.Flow.{TakesInputs}

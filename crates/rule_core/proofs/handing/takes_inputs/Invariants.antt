@@ -1,4 +1,4 @@
-use Rattle.std.proofs.Common.{◌≡◌, ◌≤◌, ◌+◌, ◌++◌, map, drop, take, length, All, slice_get}
+use Rattle.std.proofs.Common.{◌≡◌, ◌≤◌, map, drop}
 use Rattle.sig_core.specs.declared.signature.Param.{Param}
 use lib.Pointwise.{pointwise}
 use Rattle.sig_core.specs.Lists.{numbers_from}

@@ -1,4 +1,4 @@
-use Rattle.std.proofs.Common.{◌≡◌, ◌≤◌, ◌+◌, ◌++◌, map, drop, take, length, All, slice_get}
+use Rattle.std.proofs.Common.{◌≡◌, ◌≤◌, ◌+◌, drop, length}
 use Rattle.rule_core.specs.Rulebooks.{rules_for}
 use Rattle.rule_core.proofs.rulebook.Rulebook.count.Given as goal
 

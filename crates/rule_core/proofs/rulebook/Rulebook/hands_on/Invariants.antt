@@ -1,4 +1,4 @@
-use Rattle.std.proofs.Common.{◌≡◌, ◌≤◌, ◌+◌, ◌++◌, map, drop, take, length, All, slice_get}
+use Rattle.std.proofs.Common.{◌≡◌, take, All}
 use Rattle.rule_core.specs.declared.rule.Rule.{Rule}
 use Rattle.rule_core.specs.Flow.{TakesInputs}
 use Rattle.rule_core.proofs.rulebook.Rulebook.hands_on.Given as goal

@@ -1,4 +1,4 @@
-use Rattle.std.proofs.Common.{◌≡◌, ◌≤◌, ◌+◌, ◌++◌, map, drop, take, length, All, slice_get}
+use Rattle.std.proofs.Common.{◌≡◌, drop, slice_get}
 use Rattle.rule_core.specs.Rulebooks.{rules_of}
 use Rattle.rule_core.proofs.rulebook.Rulebook.of_relation.Given as goal
 
