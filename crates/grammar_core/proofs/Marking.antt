@@ -1,12 +1,12 @@
 -- Marks that follow the productions.
-use Rattle.std.proofs.Common.{◌≡◌, ℕ, ◌+◌, ◌<◌, ◌≤◌, Bool, true, false, not, cond, List, length, get_or, set, All, Contains, count_by, Option, Some, None, is_some, MatchOption, ◌⊎◌, inl, inr, sym, refl, ap, subst, ◌∙◌, arith}
+use Rattle.std.proofs.Common.{◌≡◌, ℕ, ◌<◌, Bool, true, false, not, cond, List, length, get_or, set, All, count_by, Option, Some, None, is_some, MatchOption, inl, inr, sym, refl, ap, subst, ◌∙◌, arith}
 use Rattle.std.proofs.lemmas.Bool.{cases_eq, cases_lt}
 use Rattle.std.proofs.lemmas.List.{get_or-set_same, get_or-set_other, get_or_past}
 use Rattle.std.proofs.lemmas.List.Elements.{All-contains}
 use Rattle.std.proofs.lemmas.List.Sums.{sum_by-set}
 use Rattle.grammar_core.specs.declared.ids.NtId.{NtId}
 use Rattle.grammar_core.specs.declared.production.Production.{Production}
-use Rattle.grammar_core.specs.Grammars.{Nonterminal, IsKnown, Leads, Reaches, itself, onward, blank, productions_of, start}
+use Rattle.grammar_core.specs.Grammars.{Nonterminal, IsKnown, Reaches, onward, blank, productions_of, start}
 use Rattle.grammar_core.specs.Marks.{HasChild, IsClosed, IsMarked, IsNext, KeepsMarks, MarksReached}
 use Rattle.grammar_core.specs.WellFormed.{AllKnown}
 

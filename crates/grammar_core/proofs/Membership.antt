@@ -1,5 +1,5 @@
 -- Membership, by a term's parts.
-use Rattle.std.proofs.Common.{◌≡◌, Bool, ◌&&◌, nat_eq, List, map, sym, refl, ap, ◌∙◌}
+use Rattle.std.proofs.Common.{◌≡◌, Bool, ◌&&◌, nat_eq, List, map, sym, ap, ◌∙◌}
 use Rattle.std.specs.List.{list_any}
 use lib.Pointwise.{pointwise}
 use Rattle.sig_core.specs.declared.ids.ConId.{ConId}

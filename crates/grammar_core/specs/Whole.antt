@@ -1,5 +1,5 @@
 -- The grammar of all terms.
-use Rattle.std.specs.Prelude.{ℕ, suc, ◌+◌, not, nat_eq, nat_lt, if◌then◌else◌, List, [], ◌∷◌, map, filter, length, slice_index_or}
+use Rattle.std.specs.Prelude.{ℕ, suc, ◌+◌, not, nat_eq, nat_lt, if◌then◌else◌, List, [], ◌∷◌, map, filter, slice_index_or}
 use Rattle.sig_core.specs.Lists.{numbers_from}
 use Rattle.sig_core.specs.Signatures.{Declarations}
 use Rattle.sig_core.specs.declared.ids.TypeId.{TypeId}

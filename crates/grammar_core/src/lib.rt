@@ -7,6 +7,8 @@ mod marks;
 mod members;
 mod parts;
 mod production;
+#[cfg(test)]
+mod tests;
 mod whole;
 
 pub use grammar::{Grammar, GrammarError};

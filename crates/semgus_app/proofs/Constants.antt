@@ -1,14 +1,13 @@
 -- Terms that are constants: their language, their size and their order.
-use Rattle.std.proofs.Common.{◌≡◌, ℕ, suc, ◌+◌, ◌<◌, ◌≤◌, ◌⊎◌, Bool, true, false, ◌&&◌, ◌||◌, cond, nat_eq, nat_lt, if◌then◌else◌, List, [], ◌∷◌, map, sum, length, filter, All, Decides, IsTrue, refl, sym, ap, ap₂, subst, ◌∙◌, inl, inr, arith, rules}
+use Rattle.std.proofs.Common.{◌≡◌, ℕ, suc, ◌+◌, ◌<◌, ◌≤◌, ◌⊎◌, Bool, true, false, ◌&&◌, ◌||◌, cond, nat_eq, nat_lt, if◌then◌else◌, List, [], ◌∷◌, map, length, All, refl, sym, ap, ap₂, ◌∙◌, inl, inr, arith, rules}
 use Rattle.std.specs.List.{list_any}
-use Rattle.std.specs.Cmp.Lexicographic.{slice_cmp}
 use Rattle.std.specs.Ordering.{nat_cmp, ordering_then}
 use Rattle.std.specs.declared.cmp.Ordering.{Ordering}
 use Rattle.std.specs.declared.cmp.Ordering.TheVariants.{Less, Equal, Greater}
 use lib.Pointwise.{pointwise}
 use Rattle.std.specs.Cmp.Derive.{both_true}
 use Rattle.std.proofs.lemmas.Bool.{and_parts, or_left, or_right, cases_eq, false≢true}
-use Rattle.std.proofs.lemmas.Bool.Decides.{Decides-eqb, Decides-or, Decides-ltb}
+use Rattle.std.proofs.lemmas.Bool.Decides.{Decides-eqb, Decides-ltb}
 use Rattle.std.proofs.lemmas.List.Elements.{All-head, All-tail}
 use Rattle.sig_core.specs.declared.ids.ConId.{ConId}
 use Rattle.sig_core.specs.declared.ids.TypeId.{TypeId}
@@ -17,11 +16,11 @@ use Rattle.sig_core.specs.Lists.{numbers_from}
 use Rattle.sig_core.specs.Signatures.{Declarations}
 use Rattle.term_core.specs.declared.tree.Tree.{Tree, out-Tree, the_lemmas}
 use Rattle.term_core.specs.declared.tree.Tree.TheFolds.{fold-roll-Tree}
-use Rattle.term_core.specs.Terms.{node, con_of, kids_of, size, size_step, term_cmp}
+use Rattle.term_core.specs.Terms.{node, con_of, kids_of, size, term_cmp}
 use Rattle.term_core.proofs.Order.{size-node, term_cmp-node}
 use Rattle.grammar_core.specs.declared.ids.NtId.{NtId}
 use Rattle.grammar_core.specs.declared.production.Production.{Production}
-use Rattle.grammar_core.specs.Grammars.{is_member, member_step, productions_of, start, Lang}
+use Rattle.grammar_core.specs.Grammars.{is_member, member_step, start, Lang}
 use Rattle.grammar_core.specs.Whole.{whole, productions_from, nonterminal_for}
 use Rattle.semgus_app.specs.Constants.{the_type}
 
@@ -48,7 +47,7 @@ less_first true e h = refl
 less_first false true h = absurd (false≢true (ap is_less h))
 less_first false false h = absurd (false≢true (ap is_less h))
 
-cmp-constant : (c d : ConId) → term_cmp (node c []) (node d []) ≡ ordering_then (nat_cmp c.0 d.0) Equal
+pub cmp-constant : (c d : ConId) → term_cmp (node c []) (node d []) ≡ ordering_then (nat_cmp c.0 d.0) Equal
 cmp-constant c d = term_cmp-node c d [] [] ∙ ap₂ (λ m n. ordering_then (nat_cmp m n) (ordering_then (nat_cmp c.0 d.0) Equal)) (size-constant c) (size-constant d)
 
 pub before-constant : (c d : ConId) → term_cmp (node c []) (node d []) ≡ Less → c.0 < d.0
@@ -76,7 +75,7 @@ within c k f [] h = absurd (false≢true h)
 within c k f (d ∷ cs) h = elim (or_cases (nat_eq k c && f []) (list_any (λ p. nat_eq p.con.0 c && f p.args) (map constant (numbers_from (suc k) cs))) h) [
   | inl here ↦ let e : k ≡ c = (Decides-eqb k c).0 (and_parts (nat_eq k c) (f []) here).0 in (omega arith, (and_parts (nat_eq k c) (f []) here).1)
   | inr later ↦ let r = within c (suc k) f cs later in (omega (arith, r.0), r.1)
-  ]
+]
 
 -- each number below has its production
 stands : (c k : ℕ) (f : List NtId → Bool) (cs : List Constructor) → f [] ≡ true → k ≤ c → c < k + length cs → list_any (λ p. nat_eq p.con.0 c && f p.args) (map constant (numbers_from k cs)) ≡ true
@@ -84,7 +83,7 @@ stands c k f [] t low high = absurd (omega arith)
 stands c k f (d ∷ cs) t low high = elim (cases_eq k c) [
   | inl e ↦ or_left (nat_eq k c && f []) (list_any (λ p. nat_eq p.con.0 c && f p.args) (map constant (numbers_from (suc k) cs))) (both_true ((Decides-eqb k c).1 e) t)
   | inr other ↦ or_right (nat_eq k c && f []) (list_any (λ p. nat_eq p.con.0 c && f p.args) (map constant (numbers_from (suc k) cs))) (stands c (suc k) f cs t (omega arith) (omega arith))
-  ]
+]
 
 -- the test of a term with these children, by its arguments
 abbrev kids_pass : Declarations → List Tree → List NtId → Bool

@@ -1,31 +1,29 @@
 -- Steps that derive the constraints on a constant are a derivation: valid, tidy, with each constraint's fact, and all used.
-use Rattle.std.proofs.Common.{◌≡◌, ◌≢◌, ℕ, zero, suc, ◌<◌, ◌≤◌, ◌⊎◌, Option, Some, option_map, List, [], ◌∷◌, ◌++◌, map, take, length, get_or, slice_get, slice_index, All, Contains, refl, sym, ap, ap₂, ◌∙◌, subst, inl, inr, arith}
+use Rattle.std.proofs.Common.{◌≡◌, ◌≢◌, ℕ, zero, suc, ◌<◌, ◌≤◌, Some, option_map, List, [], ◌∷◌, map, take, length, slice_get, slice_index, All, Contains, refl, sym, ap, ap₂, ◌∙◌, subst, inl, arith}
 use Rattle.std.specs.List.{AllZip}
-use Rattle.std.specs.Option.{ForSome}
 use Rattle.std.proofs.lemmas.Option.{none-some, same_Some, slice_get-map, slice_get_within, get_or_from_slice_get}
 use Rattle.std.proofs.lemmas.List.{length-map, get_or-map}
-use Rattle.std.proofs.lemmas.List.Elements.{All-nil, All-contains}
+use Rattle.std.proofs.lemmas.List.Elements.{All-nil, All-contains, All-weaker}
 use Rattle.sig_core.specs.declared.ids.ConId.{ConId}
-use Rattle.sig_core.specs.Lists.{greatest}
 use Rattle.sig_core.specs.Values.{sort_of}
-use Rattle.sig_core.specs.Signatures.{Declarations, kinds_of, plain_sorts}
+use Rattle.sig_core.specs.Signatures.{kinds_of, plain_sorts}
 use Rattle.term_core.specs.declared.tree.Tree.{Tree}
 use Rattle.term_core.specs.Terms.{node}
 use Rattle.term_core.specs.Banks.{tree_of}
 use Rattle.rule_core.specs.declared.rule.Rule.{Rule}
-use Rattle.rule_core.specs.Instances.{Fact, param_values, calls_of, call_fact}
+use Rattle.rule_core.specs.Instances.{Fact, param_values, call_fact}
 use Rattle.rule_core.specs.Rulebooks.{rules_for}
 use Rattle.problem_core.specs.declared.parts.Constraint.{Constraint}
 use Rattle.problem_core.specs.Derivations.{Within, IsLeastHeight}
 use Rattle.problem_core.specs.Problems.{Parts, fact_on}
 use Rattle.deriv_core.specs.declared.steps.Step.{Step}
 use Rattle.deriv_core.specs.declared.steps.StepId.{StepId}
-use Rattle.deriv_core.specs.Derivings.{IsDerivation, Serves}
-use Rattle.deriv_core.specs.Steps.{TreeStep, tree_step, tree_steps, Test, rule_exists, values_fit, premises_earlier, premises_match, atoms_hold, height_fits, Passes, IsValid, rule_of, step_fact, next_height, heights_of}
+use Rattle.deriv_core.specs.Derivings.{IsDerivation}
+use Rattle.deriv_core.specs.Steps.{TreeStep, tree_step, tree_steps, Test, rule_exists, values_fit, premises_earlier, premises_match, atoms_hold, height_fits, Passes, step_fact, next_height, heights_of}
 use Rattle.deriv_core.proofs.Tests.{tested}
 use Rattle.deriv_core.proofs.Valid.{height_at}
 use Rattle.semgus_app.specs.Constants.{HasConstants}
-use Rattle.semgus_app.specs.Derivations.{Derives, IsOf, Stands}
+use Rattle.semgus_app.specs.Derivations.{Derives, IsOf, IsOnConstant, Stands}
 use Rattle.semgus_app.specs.Searches.{rule_number}
 use Rattle.semgus_app.proofs.Constants.{out-node}
 use Rattle.semgus_app.proofs.Deriving.{HasDerived, IsDerived}
@@ -108,6 +106,13 @@ leaf_at p con steps ids has h k step e =
 passes_at : (p : Parts) (con : ConId) (step : TreeStep) → HasConstants p → IsLeaf p con step → (bound : ℕ) → 1 ≤ bound → (earlier : List TreeStep) (test : Test) → Passes p.signature p.rules bound earlier step test
 passes_at p con step has l bound positive earlier test =
     subst (λ s. Passes p.signature p.rules bound earlier s test) (sym l.is) (leaf_passes p con l.constraint l.number has l.sorted l.rule bound positive earlier test)
+
+on_constant_of : (p : Parts) (con : ConId) (s : Step) → HasConstants p → IsDerived p.rules con p.constraints s → IsOnConstant p.signature s
+on_constant_of p con s has d =
+    (d.2.node, subst (λ r. r.0 < length p.signature.relations) (sym d.2.relation) (All-contains (λ c. c.relation.0 < length p.signature.relations) p.constraints d.0 has.known d.1))
+
+pub on_constant : (p : Parts) (con : ConId) (steps : List Step) (ids : List StepId) → HasConstants p → HasDerived p.rules con p.constraints steps ids → All (IsOnConstant p.signature) steps
+on_constant p con steps ids has h = All-weaker (IsDerived p.rules con p.constraints) (IsOnConstant p.signature) (λ s d. on_constant_of p con s has d) steps h.derives
 
 -- the values of a step are those of its parameters
 whole_step : (p : Parts) (con : ConId) (s : Step) → HasConstants p → IsDerived p.rules con p.constraints s → param_values p.signature s.relation s.values ≡ s.values

@@ -1,5 +1,5 @@
 -- Steps that derive constraints on a constant, one after another.
-use Rattle.std.proofs.Common.{◌≡◌, ℕ, suc, ◌+◌, ◌<◌, List, [], ◌∷◌, ◌++◌, length, get_or, All, AllPairs, Contains, inl, inr, sym, ap, ◌∙◌, subst, arith}
+use Rattle.std.proofs.Common.{◌≡◌, ℕ, ◌<◌, List, [], ◌∷◌, ◌++◌, length, All, AllPairs, Contains, inl, inr, sym, ap, ◌∙◌, subst, arith}
 use Rattle.std.specs.List.{AllZip}
 use Rattle.std.proofs.lemmas.Bool.{cases_eq}
 use Rattle.std.proofs.lemmas.List.{length_push, get_or_append_left, get_or_push}
@@ -10,7 +10,7 @@ use Rattle.rule_core.specs.declared.rule.Rule.{Rule}
 use Rattle.problem_core.specs.declared.parts.Constraint.{Constraint}
 use Rattle.deriv_core.specs.declared.steps.Step.{Step}
 use Rattle.deriv_core.specs.declared.steps.StepId.{StepId}
-use Rattle.semgus_app.specs.Derivations.{Adds, Derives, IsOf, PutsLast, Stands}
+use Rattle.semgus_app.specs.Derivations.{Adds, Derives, IsOf, Stands}
 
 -- two steps of one fact
 abbrev pub SameFact : Step → Step → Type 0
@@ -71,7 +71,7 @@ next_last rules con cs c steps derived id step h missing last d = record {
   used = λ k l. elim (cases_eq k (length steps)) [
     | inl e ↦ subst (Contains (derived ++ id ∷ [])) (ap (λ n. record { 0 = n }) (last ∙ sym e)) (Contains-push derived id)
     | inr e ↦ Contains-append_left derived (id ∷ []) (record { 0 = k }) (h.used k (omega (arith, length_push steps step, l)))
-    ];
+  ];
 }
 
 -- one constraint more
@@ -80,4 +80,4 @@ pub next : (rules : List Rule) (con : ConId) (cs : List Constraint) (c : Constra
 next rules con cs c steps new derived id h a = elim a [
   | inl s ↦ subst (λ ss. HasDerived rules con (cs ++ c ∷ []) ss (derived ++ id ∷ [])) (sym s.1) (next_same rules con cs c steps derived id h s.0)
   | inr p ↦ subst (λ ss. HasDerived rules con (cs ++ c ∷ []) ss (derived ++ id ∷ [])) (sym p.grows) (next_last rules con cs c steps derived id p.step h p.missing p.last p.derives)
-  ]
+]

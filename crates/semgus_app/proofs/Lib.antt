@@ -1,9 +1,14 @@
 pub mod Constants
 pub mod Derivation
 pub mod Deriving
+pub mod Headings
+pub mod Judging
+pub mod Outcomes
+pub mod Printing
 pub mod Reading
 pub mod Ruling
 pub mod Solving
+pub mod Spelled
+pub mod Stated
 pub mod Texts
 pub mod ValueEq
-pub mod Outcomes

@@ -116,7 +116,6 @@ pub record Ran (words : List (List ℕ)) (held : List ℕ → Option (Option (Li
   pub printed : Printed r status puts puts' w w' text
 
 module _ (words : List (List ℕ)) (held : List ℕ → Option (Option (List ℕ))) (r : Status) (o o' re re' puts puts' : ℕ) (w w' : Option (List ℕ)) (run : Ran words held r o o' re re' puts puts' w w') where
-
   cause_at : (s : Status) → run.status ≡ s → HasCause s run.text run.file o o' re re'
   cause_at s e = subst (λ x. HasCause x run.text run.file o o' re re') e run.cause
 
@@ -131,11 +130,13 @@ module _ (words : List (List ℕ)) (held : List ℕ → Option (Option (List ℕ
       × ((f bytes : List ℕ) (h n : ℕ) → IsSolve words f h n → held f ≡ Some (Some bytes) → (parts : Parts) × (text : List ℕ) × States (take 1048577 bytes) parts × IsAnswerText parts h n text × Grows w w' text)
   found_clause e = elim run.printed [
     | inl a ↦ (
-      let same : run.status ≡ Found = sym a.0 ∙ e in
-      let counts = cause_at Found same in
-      ((counts.0, counts.1, a.1), λ f bytes h n solve t.
-      (let d = found_due (take 1048577 bytes) h n run.text (due_at Found same tt bytes h n (told f bytes h n solve t) solve.height_low solve.size_low) in
-      (d.0, run.text, d.1, d.2, a.2))))
+        let same : run.status ≡ Found = sym a.0 ∙ e in
+        let counts = cause_at Found same in (
+          (counts.0, counts.1, a.1),
+          λ f bytes h n solve t.
+              (let d = found_due (take 1048577 bytes) h n run.text (due_at Found same tt bytes h n (told f bytes h n solve t) solve.height_low solve.size_low) in
+              (d.0, run.text, d.1, d.2, a.2)),
+        ))
     | inr b ↦ absurd (let fault = b.0 in cc)
   ]
 
@@ -143,22 +144,26 @@ module _ (words : List (List ℕ)) (held : List ℕ → Option (Option (List ℕ
       × ((f bytes : List ℕ) (h n : ℕ) → IsSolve words f h n → held f ≡ Some (Some bytes) → (parts : Parts) × States (take 1048577 bytes) parts × IsAnswer parts h n None × Grows w w' (codes "none\n"))
   none_clause e = elim run.printed [
     | inl a ↦ (
-      let same : run.status ≡ NoTerm = sym a.0 ∙ e in
-      let counts = cause_at NoTerm same in
-      ((counts.0, counts.1, a.1), λ f bytes h n solve t.
-      (let d = none_due (take 1048577 bytes) h n run.text (due_at NoTerm same tt bytes h n (told f bytes h n solve t) solve.height_low solve.size_low) in
-      (d.0, d.1, d.2.none, subst (λ x. Grows w w' x) d.2.text_is a.2))))
+        let same : run.status ≡ NoTerm = sym a.0 ∙ e in
+        let counts = cause_at NoTerm same in (
+          (counts.0, counts.1, a.1),
+          λ f bytes h n solve t.
+              (let d = none_due (take 1048577 bytes) h n run.text (due_at NoTerm same tt bytes h n (told f bytes h n solve t) solve.height_low solve.size_low) in
+              (d.0, d.1, d.2.none, subst (λ x. Grows w w' x) d.2.text_is a.2)),
+        ))
     | inr b ↦ absurd (let fault = b.0 in cc)
   ]
 
   pub refused_clause : (which : Which) (fault : Fault) → r ≡ Refused which fault → NoneRose o o' re re' puts puts' × ((f bytes : List ℕ) (h n : ℕ) → IsSolve words f h n → held f ≡ Some (Some bytes) → StatesNothing (take 1048577 bytes) × (r ≡ whole_refusal) × Grows w w' (codes "refused 0 13\n"))
   refused_clause which fault e = elim run.printed [
     | inl a ↦ (
-      let same : run.status ≡ Refused which fault = sym a.0 ∙ e in
-      let counts = cause_at (Refused which fault) same in
-      ((counts.0, counts.1, a.1), λ f bytes h n solve t.
-      (let d = refused_due (take 1048577 bytes) h n which fault run.text (due_at (Refused which fault) same tt bytes h n (told f bytes h n solve t) solve.height_low solve.size_low) in
-      (d.0, e ∙ d.1, subst (λ x. Grows w w' x) d.2 a.2))))
+        let same : run.status ≡ Refused which fault = sym a.0 ∙ e in
+        let counts = cause_at (Refused which fault) same in (
+          (counts.0, counts.1, a.1),
+          λ f bytes h n solve t.
+              (let d = refused_due (take 1048577 bytes) h n which fault run.text (due_at (Refused which fault) same tt bytes h n (told f bytes h n solve t) solve.height_low solve.size_low) in
+              (d.0, e ∙ d.1, subst (λ x. Grows w w' x) d.2 a.2)),
+        ))
     | inr b ↦ absurd (let put = b.0 in cc)
   ]
 
@@ -166,9 +171,9 @@ module _ (words : List (List ℕ)) (held : List ℕ → Option (Option (List ℕ
       → Stays o o' → Stays re re' → Stays puts puts' → (r ≡ status_of answer) ⊎ (r ≡ Memory)
   answered_clause f bytes h n parts answer solve t stated a opens reads writes = elim run.printed [
     | inl p ↦ (
-      let judged = judged_if_none_rose run.status run.text run.file o o' re re' run.cause opens reads in
-      let d = run.due judged bytes h n (told f bytes h n solve t) solve.height_low solve.size_low in
-      inl (p.0 ∙ status_due (take 1048577 bytes) h n run.status run.text parts answer d stated a))
+        let judged = judged_if_none_rose run.status run.text run.file o o' re re' run.cause opens reads in
+        let d = run.due judged bytes h n (told f bytes h n solve t) solve.height_low solve.size_low in
+        inl (p.0 ∙ status_due (take 1048577 bytes) h n run.status run.text parts answer d stated a))
     | inr b ↦ absurd (rose_stays puts puts' b.1 writes)
   ]
 
@@ -176,9 +181,9 @@ module _ (words : List (List ℕ)) (held : List ℕ → Option (Option (List ℕ
       → Stays o o' → Stays re re' → Stays puts puts' → (r ≡ whole_refusal) ⊎ (r ≡ Memory)
   refusal_clause f bytes h n solve t nothing opens reads writes = elim run.printed [
     | inl p ↦ (
-      let judged = judged_if_none_rose run.status run.text run.file o o' re re' run.cause opens reads in
-      let d = run.due judged bytes h n (told f bytes h n solve t) solve.height_low solve.size_low in
-      inl (p.0 ∙ refusal_due (take 1048577 bytes) h n run.status run.text d nothing))
+        let judged = judged_if_none_rose run.status run.text run.file o o' re re' run.cause opens reads in
+        let d = run.due judged bytes h n (told f bytes h n solve t) solve.height_low solve.size_low in
+        inl (p.0 ∙ refusal_due (take 1048577 bytes) h n run.status run.text d nothing))
     | inr b ↦ absurd (rose_stays puts puts' b.1 writes)
   ]
 
@@ -187,7 +192,7 @@ module _ (words : List (List ℕ)) (held : List ℕ → Option (Option (List ℕ
   due_part_clause e f bytes h n solve t = elim run.printed [
     | inl a ↦ absurd (cause_at WriteFault (sym a.0 ∙ e))
     | inr b ↦ (
-      let name = same_file words run.file f run.height h run.size n run.solve solve in
-      let output = output_due run.status run.text run.file (take 1048577 bytes) h n o o' re re' run.cause (λ j. run.due j bytes h n (told f bytes h n solve t) solve.height_low solve.size_low) in
-      (run.text, subst (λ x. IsOutput x (take 1048577 bytes) h n o o' re re' run.text) name output, b.2))
+        let name = same_file words run.file f run.height h run.size n run.solve solve in
+        let output = output_due run.status run.text run.file (take 1048577 bytes) h n o o' re re' run.cause (λ j. run.due j bytes h n (told f bytes h n solve t) solve.height_low solve.size_low) in
+        (run.text, subst (λ x. IsOutput x (take 1048577 bytes) h n o o' re re' run.text) name output, b.2))
   ]

@@ -1,14 +1,13 @@
 -- What rules without calls and existentials derive on a constant.
-use Rattle.std.proofs.Common.{◌≡◌, ℕ, zero, suc, ◌+◌, ◌<◌, ◌≤◌, Bool, true, false, not, ◌&&◌, cond, nat_eq, nat_lt, Option, Some, None, is_some, List, [], ◌∷◌, ◌++◌, map, take, length, get_or, filter, position, slice_get, All, Decides, refl, sym, ap, ap₂, subst, ◌∙◌, arith, lt-ltb, ltb-true, append-nil, rules}
+use Rattle.std.proofs.Common.{◌≡◌, ℕ, zero, suc, ◌+◌, ◌<◌, Bool, true, false, not, ◌&&◌, cond, nat_eq, nat_lt, Option, Some, None, is_some, List, [], ◌∷◌, ◌++◌, map, length, position, slice_get, All, Decides, refl, sym, ap, ap₂, subst, ◌∙◌, arith, lt-ltb, ltb-true, append-nil, rules}
 use Rattle.std.specs.List.{list_all, position_or_len}
-use Rattle.std.specs.Bool.{beq}
 use Rattle.std.specs.Cmp.{booleans_Decides}
-use Rattle.std.proofs.lemmas.Bool.{and_parts, cond_both, cond-true, false≢true}
-use Rattle.std.proofs.lemmas.Bool.Decides.{Decides-int_eq, Decides-eqb, Decides-by_and, Decides-like}
+use Rattle.std.proofs.lemmas.Bool.{and_parts, false≢true}
+use Rattle.std.proofs.lemmas.Bool.Decides.{Decides-int_eq, Decides-eqb, Decides-by_and}
 use Rattle.std.proofs.lemmas.List.{length-map, take_all}
-use Rattle.std.proofs.lemmas.List.Elements.{All-nil, All-cons, All-head, All-tail, All-filter, filter_passes}
+use Rattle.std.proofs.lemmas.List.Elements.{All-nil, All-filter, filter_passes}
 use Rattle.std.proofs.lemmas.List.Quantifiers.{position-Some}
-use Rattle.std.proofs.lemmas.Option.{cond_some, none-some, same_Some, slice_get-get_or, slice_get_within, get_or_from_slice_get}
+use Rattle.std.proofs.lemmas.Option.{cond_some, none-some, same_Some, slice_get_within, get_or_from_slice_get}
 use Rattle.sig_core.specs.declared.ids.ConId.{ConId}
 use Rattle.sig_core.specs.declared.ids.RelId.{RelId}
 use Rattle.sig_core.specs.declared.value.Value.{Value}
@@ -16,16 +15,15 @@ use Rattle.sig_core.specs.declared.value.Value.TheVariants as value
 use Rattle.sig_core.specs.Values.{same_value, sort_of}
 use Rattle.sig_core.specs.Signatures.{Declarations, kinds_of, plain_sorts}
 use Rattle.expr_core.specs.Expressions.{value_of}
-use Rattle.term_core.specs.declared.tree.Tree.{Tree, out-Tree}
 use Rattle.term_core.specs.Terms.{node}
 use Rattle.rule_core.specs.declared.rule.Atom.{Atom}
 use Rattle.rule_core.specs.declared.rule.Atom.TheVariants as atom
 use Rattle.rule_core.specs.declared.rule.Call.{Call}
 use Rattle.rule_core.specs.declared.rule.Rule.{Rule}
-use Rattle.rule_core.specs.Instances.{Fact, Holds, IsInstance, slot_sorts, param_values, calls_of}
+use Rattle.rule_core.specs.Instances.{Holds, slot_sorts, param_values, calls_of}
 use Rattle.rule_core.specs.Rulebooks.{rules_for}
 use Rattle.problem_core.specs.declared.parts.Constraint.{Constraint}
-use Rattle.problem_core.specs.Derivations.{Follows, Within, CallMeets}
+use Rattle.problem_core.specs.Derivations.{Within, CallMeets}
 use Rattle.problem_core.specs.Problems.{fact_on}
 use Rattle.semgus_app.specs.Searches.{have_one_value, is_true, holds, rule_number, meets}
 use Rattle.semgus_app.proofs.Constants.{out-node}

@@ -1,20 +1,19 @@
 -- The first constant that meets all constraints is the answer.
-use Rattle.std.proofs.Common.{◌≡◌, ℕ, zero, suc, ◌<◌, ◌≤◌, true, false, Option, Some, None, option_map, List, [], map, length, All, Decides, refl, sym, ap, subst, ◌∙◌, arith}
+use Rattle.std.proofs.Common.{◌≡◌, ℕ, zero, suc, ◌<◌, ◌≤◌, true, Option, Some, None, option_map, IfSome, List, [], map, length, All, refl, sym, subst, ◌∙◌, arith}
 use Rattle.std.specs.List.{list_all}
 use Rattle.std.specs.declared.cmp.Ordering.TheVariants.{Less}
 use Rattle.std.proofs.lemmas.Bool.{true≢false}
-use Rattle.std.proofs.lemmas.Bool.Decides.{Decides-by_and, not_from_Decides}
+use Rattle.std.proofs.lemmas.Bool.Decides.{Decides-by_and}
 use Rattle.sig_core.specs.declared.ids.ConId.{ConId}
 use Rattle.sig_core.specs.Values.{sort_of}
 use Rattle.sig_core.specs.Signatures.{kinds_of, plain_sorts}
 use Rattle.term_core.specs.declared.tree.Tree.{Tree}
-use Rattle.term_core.specs.Terms.{node, con_of, size, term_cmp}
+use Rattle.term_core.specs.Terms.{node, con_of, term_cmp}
 use Rattle.grammar_core.specs.Grammars.{Lang, start}
-use Rattle.grammar_core.specs.Whole.{whole}
 use Rattle.problem_core.specs.declared.parts.Constraint.{Constraint}
 use Rattle.problem_core.specs.Derivations.{Within}
-use Rattle.problem_core.specs.Problems.{Parts, Solves, IsSolution, IsFirst, IsAnswer, fact_on}
-use Rattle.semgus_app.specs.Constants.{HasConstants, the_type}
+use Rattle.problem_core.specs.Problems.{Parts, Solves, IsSolution, IsAnswer, fact_on}
+use Rattle.semgus_app.specs.Constants.{HasConstants}
 use Rattle.semgus_app.specs.Searches.{meets, solves, IsFirstSolving}
 use Rattle.semgus_app.proofs.Constants.{is_of_language, is_constant, size-constant, before-constant}
 use Rattle.semgus_app.proofs.Ruling.{meets-within, within-meets}
@@ -58,3 +57,7 @@ answer_of p h n (Some con) has le f = record {
 pub answer : (p : Parts) (h n : ℕ) (found : Option ConId) → HasConstants p → 1 ≤ h → 1 ≤ n → IsFirstSolving p.rules p.constraints (length p.signature.constructors) found → IsAnswer p h n (option_map (λ con. node con []) found)
 answer p zero n found has positive le f = absurd (omega arith)
 answer p (suc h) n found has positive le f = answer_of p h n found has le f
+
+pub known : (p : Parts) (found : Option ConId) → IsFirstSolving p.rules p.constraints (length p.signature.constructors) found → IfSome found (λ con. con.0 < length p.signature.constructors)
+known p None f = tt
+known p (Some con) f = f.0

@@ -1,6 +1,6 @@
 -- The text of an answer: the term, its size, its nodes, the steps, and the step of each constraint. Each form stands on
 -- a line, and numbers count from 0.
-use Rattle.std.specs.Prelude.{ℕ, suc, Option, Some, None, List, [], ◌∷◌, ◌++◌, map, slice_get, codes, decimal}
+use Rattle.std.specs.Prelude.{ℕ, suc, Option, Some, None, List, [], ◌∷◌, ◌++◌, slice_get, codes, decimal}
 use Rattle.std.specs.List.{flat_map, position_or_len}
 use Rattle.std.specs.Ordering.{is_eq}
 use Rattle.sig_core.specs.declared.ids.ConId.{ConId}

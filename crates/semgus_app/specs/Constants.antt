@@ -1,5 +1,5 @@
 -- Problems whose terms are constants and whose rules make no calls.
-use Rattle.std.specs.Prelude.{◌≡◌, ◌<◌, List, [], map, length, All}
+use Rattle.std.specs.Prelude.{◌≡◌, ◌<◌, [], map, length, All}
 use Rattle.sig_core.specs.declared.ids.TypeId.{TypeId}
 use Rattle.sig_core.specs.Values.{sort_of}
 use Rattle.sig_core.specs.Signatures.{kinds_of, plain_sorts}

@@ -1,6 +1,7 @@
 -- The steps that derive constraints on a constant by rules without calls.
 use Rattle.std.specs.Prelude.{◌≡◌, ◌<◌, ◌⊎◌, ◌++◌, ℕ, Some, List, [], ◌∷◌, length, slice_index_or, All}
 use Rattle.sig_core.specs.declared.ids.ConId.{ConId}
+use Rattle.sig_core.specs.Signatures.{Declarations}
 use Rattle.rule_core.specs.declared.rule.Rule.{Rule}
 use Rattle.problem_core.specs.declared.parts.Constraint.{Constraint}
 use Rattle.deriv_core.specs.declared.steps.Step.{Step}
@@ -34,3 +35,7 @@ pub record PutsLast (rules : List Rule) (con : ConId) (constraint : Constraint) 
 -- the constraint's step stands already, or it is put last
 abbrev pub Adds : List Rule → ConId → Constraint → List Step → List Step → StepId → Type 0
 Adds rules con constraint old new id = (Stands old constraint id.0 × (new ≡ old)) ⊎ PutsLast rules con constraint old new id
+
+-- the step is on the one term, and its relation is declared
+abbrev pub IsOnConstant : Declarations → Step → Type 0
+IsOnConstant sig step = (step.node ≡ record { 0 = 0 }) × (step.relation.0 < length sig.relations)

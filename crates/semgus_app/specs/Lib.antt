@@ -1,8 +1,8 @@
+pub mod AnswerText
 pub mod Commands
 pub mod Constants
 pub mod Derivations
 pub mod Dues
-pub mod AnswerText
 pub mod FileDues
 pub mod First
 pub mod Searches

@@ -4,7 +4,7 @@ ghost use Rattle.problem_core.specs.Problems.{Solves};
 ghost use Rattle.deriv_core.specs.Derivings.{IsDerivation};
 ghost use Rattle.deriv_core.specs.Steps.{tree_steps};
 ghost use Rattle.semgus_app.specs.Constants.{HasConstants, parts_of};
-ghost use Rattle.semgus_app.specs.Derivations.{Adds, Derives, IsOf, Stands};
+ghost use Rattle.semgus_app.specs.Derivations.{Adds, Derives, IsOf, IsOnConstant, Stands};
 ghost use Rattle.semgus_app.specs.Searches.{meets, rule_number};
 
 use crate::problem::Problem;
@@ -28,19 +28,14 @@ pub struct Derived {
 pub fn derive(alloc: Global, problem: &Problem, con: ConId) -> Result<Derived, AllocError>
     requires constants { HasConstants (parts_of problem.now) }
     requires solves { Solves (parts_of problem.now) 1 (node con []) }
-    ensures { IfOk result (λ d. (height : ℕ) → 1 ≤ height →
+    ensures on_constant { IfOk result (λ d. All (IsOnConstant problem.now.signature) d.steps) }
+    ensures derivation { IfOk result (λ d. (height : ℕ) → 1 ≤ height →
         IsDerivation (parts_of problem.now) height (node con []) (tree_steps (node con [] ∷ []) d.steps) (map (λ id. id.0) d.derived)) }
 {
     let mut steps: Items<Step> = Items::new(alloc);
     let mut derived = StepIds::new(alloc);
     for constraint in problem.constraints.as_slice() {
-        let id = add_step(
-            alloc,
-            problem.rules.as_slice(),
-            con,
-            constraint,
-            &mut steps,
-        )?;
+        let id = add_step(alloc, problem.rules.as_slice(), con, constraint, &mut steps)?;
         derived.push(id)?;
     }
     Ok(Derived { steps, derived })
@@ -112,12 +107,7 @@ fn rule_for(rules: &[Rule], con: ConId, constraint: &Constraint) -> u64
     requires { meets rules.now con constraint.now ≡ true }
     ensures { rule_number rules.now constraint.now.relation con constraint.now.args ≡ Some result }
 {
-    match rule_number(
-        rules,
-        constraint.relation,
-        con,
-        constraint.args.as_slice(),
-    ) {
+    match rule_number(rules, constraint.relation, con, constraint.args.as_slice()) {
         Some(number) => number as u64,
         None => 0,
     }

@@ -5,6 +5,7 @@ mod command;
 mod derive;
 mod first;
 mod judge;
+mod print;
 mod problem;
 mod program;
 mod read;

@@ -67,9 +67,8 @@ pub fn run<F: Files, S: Sink>(alloc: Global, words: &Words, files: &mut F, out: 
         × ((file bytes : List ℕ) (height size : ℕ) → IsSolve words.now file height size → F.held files.old file ≡ Some (Some bytes) →
         (parts : Parts) × States (take 1048577 bytes) parts × IsAnswer parts height size None × Grows (S.written out.old) (S.written out.new) (codes "none\n")) }
     ensures refused { (which : Which) (fault : Fault) → result ≡ Status.Refused which fault → NoneRose (F.open_faults files.old) (F.open_faults files.new) (F.read_faults files.old) (F.read_faults files.new) (S.faults out.old) (S.faults out.new)
-        × (result ≡ whole_refusal)
         × ((file bytes : List ℕ) (height size : ℕ) → IsSolve words.now file height size → F.held files.old file ≡ Some (Some bytes) →
-        StatesNothing (take 1048577 bytes) × Grows (S.written out.old) (S.written out.new) (codes "refused 0 13\n")) }
+        StatesNothing (take 1048577 bytes) × (result ≡ whole_refusal) × Grows (S.written out.old) (S.written out.new) (codes "refused 0 13\n")) }
     // Where no count rose and memory wasn't refused, the answer comes: `none` exactly where there is none.
     ensures answered { (file bytes : List ℕ) (height size : ℕ) (parts : Parts) (answer : Option Tree) → IsSolve words.now file height size → F.held files.old file ≡ Some (Some bytes) →
         States (take 1048577 bytes) parts → IsAnswer parts height size answer →

@@ -1,4 +1,4 @@
-ghost use Rattle.std.specs.Prelude.{◌≡◌, ◌≤◌, ℕ, [], option_map};
+ghost use Rattle.std.specs.Prelude.{◌≡◌, ◌<◌, ◌≤◌, ℕ, [], length, option_map, IfSome};
 ghost use Rattle.std.specs.List.{list_all};
 ghost use Rattle.term_core.specs.Terms.{node};
 ghost use Rattle.problem_core.specs.Problems.{IsAnswer};
@@ -16,7 +16,8 @@ use sig_core::{ConId, RelId, Value};
 /// the height of derivations and on the size of terms play no part.
 pub fn solve(problem: &Problem) -> Option<ConId>
     requires { HasConstants (parts_of problem.now) }
-    ensures { (height size : ℕ) → 1 ≤ height → 1 ≤ size → IsAnswer (parts_of problem.now) height size (option_map (λ con. node con []) result) }
+    ensures known { IfSome result (λ con. con.0 < length problem.now.signature.constructors) }
+    ensures answer { (height size : ℕ) → 1 ≤ height → 1 ≤ size → IsAnswer (parts_of problem.now) height size (option_map (λ con. node con []) result) }
 {
     first_solving(
         problem.rules.as_slice(),
@@ -50,23 +51,12 @@ fn solves(rules: &[Rule], constraints: &[Constraint], con: ConId) -> bool
 fn meets(rules: &[Rule], con: ConId, constraint: &Constraint) -> bool
     ensures { result ≡ meets rules.now con constraint.now }
 {
-    rule_number(
-        rules,
-        constraint.relation,
-        con,
-        constraint.args.as_slice(),
-    )
-    .is_some()
+    rule_number(rules, constraint.relation, con, constraint.args.as_slice()).is_some()
 }
 
 /// The number of the first rule that derives the values of a relation on a constant. It counts within the rules of the
 /// relation and the constant, from 0.
-pub fn rule_number(
-    rules: &[Rule],
-    relation: RelId,
-    con: ConId,
-    values: &[Value],
-) -> Option<usize>
+pub fn rule_number(rules: &[Rule], relation: RelId, con: ConId, values: &[Value]) -> Option<usize>
     ensures { result ≡ rule_number rules.now relation con values.now }
 {
     rules

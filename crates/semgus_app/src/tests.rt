@@ -4,56 +4,6 @@ use std::alloc::AllocError;
 use std::process::Abort;
 use std::test::Fail;
 
-const TINY: &str = "(declare-term-types ((E 0)) (($a)))
-(define-funs-rec ((S ((t E) (r Int)) Bool)) ((! (match t (($a (= r 1)))) :input () :output (r))))
-(synth-fun f () E)
-(constraint (S f 1))
-(check-synth)
-";
-
-const TINY_ANSWER: &str = "(answer 1)
-(term $a)
-(size 1)
-(node 0 $a)
-(step 0 S 0 0 (1) ())
-(derived 0 0)
-";
-
-const TINY_OF_2: &str = "(declare-term-types ((E 0)) (($a)))
-(define-funs-rec ((S ((t E) (r Int)) Bool)) ((! (match t (($a (= r 1)))) :input () :output (r))))
-(synth-fun f () E)
-(constraint (S f 2))
-(check-synth)
-";
-
-const TWICE: &str = "(declare-term-types ((E 0)) (($c)))
-(define-funs-rec ((S ((t E) (r Int)) Bool)) ((! (match t (($c (= r 0)) ($c (= r 1)))) :input () :output (r))))
-(synth-fun f () E)
-(constraint (S f 0))
-(constraint (S f 1))
-(check-synth)
-";
-
-const TWICE_ANSWER: &str = "(answer 1)
-(term $c)
-(size 1)
-(node 0 $c)
-(step 0 S 0 0 (0) ())
-(step 1 S 0 1 (1) ())
-(derived 0 0)
-(derived 1 1)
-";
-
-const LOOP: &str = "(declare-term-types ((E 0)) (($loop)))
-(define-funs-rec ((S ((t E) (x Int) (r Int)) Bool))
- ((! (match t (($loop (or (and (<= x 0) (= r 0))
-   (exists ((q Int)) (and (> x 0) (S t (- x 1) q) (= r (+ q 2))))))))
-  :input (x) :output (r))))
-(synth-fun f () E)
-(constraint (S f 3 6))
-(check-synth)
-";
-
 const REFUSED: Status = Status::Refused(
     Which::Problem,
     Fault {
@@ -63,6 +13,85 @@ const REFUSED: Status = Status::Refused(
     },
 );
 
+const TINY: &str = "(declare-term-types ((E 0)) (($a)))
+(define-funs-rec ((S ((t E) (r Int)) Bool)) ((! (match t (($a (= r 1)))) :input () :output (r))))
+(synth-fun f () E)
+(constraint (S f 1))
+(check-synth)
+";
+
+const TINY_ANSWER: &str =
+    "(answer 1)\n(term $a)\n(size 1)\n(node 0 $a)\n(step 0 S 0 0 (1) ())\n(derived 0 0)\n";
+
+/// Texts of files, with the status and the output of `solve` with bounds of 1.
+const ANSWERS: [(&str, Status, &str); 8] = [
+    (TINY, Status::Found, TINY_ANSWER),
+    (
+        "(declare-term-types ((E 0)) (($a)))(define-funs-rec ((S ((t E) (r Int)) Bool)) ((! (match t (($a (= r 1)))) :input () :output (r))))(synth-fun f () E)(constraint (S f 2))(check-synth)",
+        Status::NoTerm,
+        "none\n",
+    ),
+    // Two rules of one constructor, with different outputs.
+    (
+        "(declare-term-types ((E 0)) (($c)))(define-funs-rec ((S ((t E) (r Int)) Bool)) ((! (match t (($c (= r 0)) ($c (= r 1)))) :input () :output (r))))(synth-fun f () E)(constraint (S f 0))(constraint (S f 1))(check-synth)",
+        Status::Found,
+        "(answer 1)\n(term $c)\n(size 1)\n(node 0 $c)\n(step 0 S 0 0 (0) ())\n(step 1 S 0 1 (1) ())\n(derived 0 0)\n(derived 1 1)\n",
+    ),
+    // The last of the constructors solves, by an input; one of them has no case.
+    (
+        "(declare-term-types ((E 0)) (($a ($b) $d $c)))(define-funs-rec ((S ((t E) (x Int) (y Int) (r Int)) Bool)) ((! (match t (($a (= r 1)) (($b) (= r x)) ($c (= r y)))) :input (x y) :output (r))))(synth-fun f () E)(constraint (S f 7 170141183460469231731687303715884105727 170141183460469231731687303715884105727))(check-synth)",
+        Status::Found,
+        "(answer 1)\n(term $c)\n(size 1)\n(node 0 $c)\n(step 0 S 0 0 (7 170141183460469231731687303715884105727 170141183460469231731687303715884105727) ())\n(derived 0 0)\n",
+    ),
+    // Without constraints the first term solves.
+    (
+        "(declare-term-types ((E 0)) (($a $b)))(define-funs-rec ((S ((t E) (r Int)) Bool)) ((! (match t ()) :input () :output (r))))(synth-fun f () E)(check-synth)",
+        Status::Found,
+        "(answer 1)\n(term $a)\n(size 1)\n(node 0 $a)\n",
+    ),
+    (
+        "(declare-term-types ((E 0)) (()))(define-funs-rec ((S ((t E) (r Int)) Bool)) ((! (match t ()) :input () :output (r))))(synth-fun f () E)(check-synth)",
+        Status::NoTerm,
+        "none\n",
+    ),
+    // A rule that calls its relation on the term itself.
+    (
+        "(declare-term-types ((E 0)) (($loop)))(define-funs-rec ((S ((t E) (x Int) (r Int)) Bool)) ((! (match t (($loop (or (and (<= x 0) (= r 0)) (exists ((q Int)) (and (> x 0) (S t (- x 1) q) (= r (+ q 2)))))))) :input (x) :output (r))))(synth-fun f () E)(constraint (S f 3 6))(check-synth)",
+        REFUSED,
+        "refused 0 13\n",
+    ),
+    ("", REFUSED, "refused 0 13\n"),
+];
+
+/// Near misses of the first form.
+const NEAR_MISSES: [&str; 11] = [
+    "(declare-term-types ((E 0) (F 0)) (($a) ()))(define-funs-rec ((S ((t E) (r Int)) Bool)) ((! (match t (($a (= r 1)))) :input () :output (r))))(synth-fun f () E)(check-synth)",
+    "(declare-term-types ((E 0)) (($a $a)))(define-funs-rec ((S ((t E) (r Int)) Bool)) ((! (match t (($a (= r 1)))) :input () :output (r))))(synth-fun f () E)(check-synth)",
+    "(declare-term-types ((Int 0)) (($a)))(define-funs-rec ((S ((t Int) (r Int)) Bool)) ((! (match t (($a (= r 1)))) :input () :output (r))))(synth-fun f () Int)(check-synth)",
+    "(declare-term-types)(define-funs-rec ((S ((t E) (r Int)) Bool)) ((! (match t (($a (= r 1)))) :input () :output (r))))(synth-fun f () E)(check-synth)",
+    "(declare-term-types ((E 0)) (($a)))(define-funs-rec ((S ((t E) (r Int)) Bool)) ((! (match t (($a (= r 170141183460469231731687303715884105728)))) :input () :output (r))))(synth-fun f () E)(check-synth)",
+    "(declare-term-types ((E 0)) (($a)))(define-funs-rec ((S ((t E) (let Int) (r Int)) Bool)) ((! (match t (($a (= r 1)))) :input (let) :output (r))))(synth-fun f () E)(check-synth)",
+    "(declare-term-types ((E 0)) (($a)))(define-funs-rec ((S ((t E) (r Int)) Bool)) ((! (match t (($a (= r 1)))) :output (r) :input ())))(synth-fun f () E)(check-synth)",
+    "(declare-term-types ((E 0)) (($a)))(define-funs-rec ((S ((t E) (r Int)) Bool)) ((! (match t (($b (= r 1)))) :input () :output (r))))(synth-fun f () E)(check-synth)",
+    "(declare-term-types ((E 0)) (($a)))(define-funs-rec ((S ((t E) (r Int)) Bool)) ((! (match t (($a (= r 1)))) :input () :output (r))))(synth-fun f () E)(constraint (S f (- 1)))(check-synth)",
+    "(declare-term-types ((E 0)) (($a)))(define-funs-rec ((S ((t E) (r Int)) Bool)) ((! (match t (($a (= r 1)))) :input () :output (r))))(synth-fun f () E)(check-synth)(check-synth)",
+    "(declare-term-types ((E 0)) (($a)))(define-funs-rec ((S ((t E) (r Int)) Bool)) ((! (match t (($a (= r 1)))) :input () :output (r))))(synth-fun f () E)(constraint (S f 1))",
+];
+
+/// Words that have none of the forms.
+const BAD_WORDS: [&str; 10] = [
+    "",
+    "solve",
+    "solve tiny.sl",
+    "solve tiny.sl 0 5",
+    "solve tiny.sl 01 5",
+    "solve tiny.sl 1001 1",
+    "solve tiny.sl 1 41",
+    "solve tiny.sl +1 1",
+    "solve tiny.sl 1 1 1",
+    "show tiny.sl 1 1",
+];
+
 /// The words of a line, which are parted by single spaces.
 fn words_of(rt: &impl AllocGlobal, line: &str) -> Result<Words, AllocError> {
     let mut words = Words::new(rt.alloc());
@@ -70,6 +99,12 @@ fn words_of(rt: &impl AllocGlobal, line: &str) -> Result<Words, AllocError> {
         words.push(word)?;
     }
     Ok(words)
+}
+
+fn file_of(rt: &impl AllocGlobal, text: &str) -> Result<MemoryFiles, AllocError> {
+    let mut files = MemoryFiles::new(rt.alloc());
+    files.add("tiny.sl", text.as_bytes())?;
+    Ok(files)
 }
 
 /// Runs the words of a line over the files.
@@ -83,93 +118,62 @@ fn check<R: Abort + AllocGlobal>(
     let words = words_of(rt, line)?;
     let mut out = MemorySink::new(rt.alloc(), 4096)?;
     let answer = run(rt.alloc(), &words, files, &mut out);
-    assert!(rt; answer == status, "{line}");
-    assert!(rt; out.written() == output.as_bytes(), "{line}");
+    assert!(rt; answer == status);
+    assert!(rt; out.written() == output.as_bytes());
     Ok(())
 }
 
 #[test]
 fn files_are_answered(rt: HostRuntime) -> Result<(), Fail> {
-    let mut files = MemoryFiles::new(rt.alloc());
-    files.add("tiny.sl", TINY.as_bytes())?;
-    files.add("two.sl", TINY_OF_2.as_bytes())?;
-    files.add("twice.sl", TWICE.as_bytes())?;
-    files.add("loop.sl", LOOP.as_bytes())?;
-    files.add("empty.sl", b"")?;
-    check(
-        &rt,
-        "solve tiny.sl 1 1",
-        &mut files,
-        Status::Found,
-        TINY_ANSWER,
-    )?;
-    check(
-        &rt,
-        "solve two.sl 1 1",
-        &mut files,
-        Status::NoTerm,
-        "none\n",
-    )?;
-    check(
-        &rt,
-        "solve twice.sl 1 1",
-        &mut files,
-        Status::Found,
-        TWICE_ANSWER,
-    )?;
-    check(
-        &rt,
-        "solve loop.sl 4 1",
-        &mut files,
-        REFUSED,
-        "refused 0 13\n",
-    )?;
-    check(
-        &rt,
-        "solve empty.sl 1 1",
-        &mut files,
-        REFUSED,
-        "refused 0 13\n",
-    )?;
-    check(
-        &rt,
-        "solve absent.sl 1 1",
-        &mut files,
-        Status::CannotOpen,
-        "cannot open absent.sl\n",
-    )?;
+    for (text, status, output) in ANSWERS {
+        let mut files = file_of(&rt, text)?;
+        check(&rt, "solve tiny.sl 1 1", &mut files, status, output)?;
+    }
+    Ok(())
+}
+
+#[test]
+fn near_misses_are_refused(rt: HostRuntime) -> Result<(), Fail> {
+    for text in NEAR_MISSES {
+        let mut files = file_of(&rt, text)?;
+        check(
+            &rt,
+            "solve tiny.sl 1 1",
+            &mut files,
+            REFUSED,
+            "refused 0 13\n",
+        )?;
+    }
     Ok(())
 }
 
 #[test]
 fn words_without_a_form_are_bad(rt: HostRuntime) -> Result<(), Fail> {
-    let mut files = MemoryFiles::new(rt.alloc());
-    files.add("tiny.sl", TINY.as_bytes())?;
-    for line in [
-        "",
-        "solve",
-        "solve tiny.sl",
-        "solve tiny.sl 0 5",
-        "solve tiny.sl 01 5",
-        "solve tiny.sl 1001 1",
-        "solve tiny.sl 1 41",
-        "solve tiny.sl +1 1",
-        "solve tiny.sl 1 1 1",
-        "show tiny.sl 1 1",
-    ] {
+    for line in BAD_WORDS {
+        let mut files = file_of(&rt, TINY)?;
         check(&rt, line, &mut files, Status::BadWords, "bad words\n")?;
     }
-    let mut out = MemorySink::new(rt.alloc(), 100)?;
-    let none = Words::new(rt.alloc());
-    assert!(rt; run(rt.alloc(), &none, &mut files, &mut out) == Status::BadWords);
+    Ok(())
+}
+
+#[test]
+fn a_name_without_a_file_cannot_be_opened(rt: HostRuntime) -> Result<(), Fail> {
+    let mut files = file_of(&rt, TINY)?;
+    let line = "cannot open absent.sl\n";
+    check(
+        &rt,
+        "solve absent.sl 1 1",
+        &mut files,
+        Status::CannotOpen,
+        line,
+    )?;
     Ok(())
 }
 
 #[test]
 fn a_take_that_fails_is_a_read_fault(rt: HostRuntime) -> Result<(), Fail> {
     for (piece, failing) in [(100, 2), (1, 150)] {
-        let mut files = MemoryFiles::new(rt.alloc());
-        files.add("tiny.sl", TINY.as_bytes())?;
+        let mut files = file_of(&rt, TINY)?;
         files.piece(piece);
         files.fail_take(failing)?;
         check(
@@ -192,8 +196,7 @@ fn a_take_that_fails_is_a_read_fault(rt: HostRuntime) -> Result<(), Fail> {
 
 #[test]
 fn a_put_that_fails_leaves_a_first_part(rt: HostRuntime) -> Result<(), Fail> {
-    let mut files = MemoryFiles::new(rt.alloc());
-    files.add("tiny.sl", TINY.as_bytes())?;
+    let mut files = file_of(&rt, TINY)?;
     let words = words_of(&rt, "solve tiny.sl 1 1")?;
     let mut out = MemorySink::new(rt.alloc(), 4096)?;
     out.piece(3);
@@ -201,21 +204,4 @@ fn a_put_that_fails_leaves_a_first_part(rt: HostRuntime) -> Result<(), Fail> {
     assert!(rt; run(rt.alloc(), &words, &mut files, &mut out) == Status::WriteFault);
     assert!(rt; out.written() == b"(an".as_slice());
     Ok(())
-}
-
-#[test]
-fn each_status_has_its_number(rt: HostRuntime) {
-    let numbers = [
-        (Status::Found, 0),
-        (Status::NoTerm, 1),
-        (Status::BadWords, 2),
-        (REFUSED, 3),
-        (Status::CannotOpen, 4),
-        (Status::ReadFault, 4),
-        (Status::WriteFault, 5),
-        (Status::Memory, 6),
-    ];
-    for (status, number) in numbers {
-        assert_eq!(rt; status.number(), number);
-    }
 }

@@ -1,4 +1,4 @@
-ghost use Rattle.std.specs.Prelude.{◌≡◌, IfOk, ◌≤◌, Some, None, option_map, length, All, MatchBool};
+ghost use Rattle.std.specs.Prelude.{◌≡◌, IfOk, IfSome, ◌≤◌, Some, None, option_map, length, All, MatchBool};
 ghost use Rattle.std.specs.Option.{option_copied};
 ghost use Rattle.semgus_app.specs.First.{type_of, group_of, type_parts_of, types_of, with_constant, with_constants, with_the_type, is_short};
 
@@ -11,7 +11,7 @@ use std::alloc::{AllocError, Global};
 const LONGEST_NAME: usize = 1024;
 
 /// The one type of the file.
-const THE_TYPE: TypeId = TypeId(0);
+pub const THE_TYPE: TypeId = TypeId(0);
 
 /// A declared name isn't too long.
 pub fn is_short(name: &[u8]) -> bool
@@ -20,9 +20,11 @@ pub fn is_short(name: &[u8]) -> bool
     name.len() <= LONGEST_NAME
 }
 
+#[tactic(auto, unfolding(crate::specs::First::types_of))]
 /// The signature that `(declare-term-types ((E 0)) ((con ..)))` declares, each con `s` or `(s)`.
 pub fn declared_types(alloc: Global, form: &Sexpr) -> Result<Option<Signature>, AllocError>
-    ensures { IfOk result (λ o. o ≡ types_of form.now) }
+    ensures exact { IfOk result (λ o. o ≡ types_of form.now) }
+    ensures one_type { IfOk result (λ o. IfSome o (λ sig. length sig.types ≡ 1)) }
 {
     let Some((name, constants)) = type_parts(form) else {
         return Ok(None);
@@ -66,7 +68,7 @@ fn type_name(form: &Sexpr) -> Option<&[u8]>
 }
 
 /// The forms of the one list of a list.
-fn only_group(form: &Sexpr) -> Option<&[Sexpr]>
+pub fn only_group(form: &Sexpr) -> Option<&[Sexpr]>
     ensures { option_copied result ≡ group_of form.now }
 {
     let [group] = items(form)? else {
@@ -97,7 +99,8 @@ fn with_constants(
 ) -> Result<Option<Signature>, AllocError>
     requires one_type { length signature.types ≡ 1 }
     requires owners { All (λ c. c.owner.0 ≤ 0) signature.constructors }
-    ensures { IfOk result (λ o. o ≡ with_constants signature forms.now) }
+    ensures exact { IfOk result (λ o. o ≡ with_constants signature forms.now) }
+    ensures one_type { IfOk result (λ o. IfSome o (λ sig. length sig.types ≡ 1)) }
 {
     for form in forms {
         if !add_constant(&mut signature, form)? {

@@ -1,4 +1,4 @@
-use Rattle.std.proofs.Common.{◌≡◌, ◌<◌, ◌∙◌, length, set, true, ap, sym, subst, arith}
+use Rattle.std.proofs.Common.{◌<◌, ◌∙◌, length, set, true, ap, sym, subst, arith}
 use Rattle.std.proofs.lemmas.List.{length-set}
 use Rattle.grammar_core.specs.Marks.{IsClosed, IsNext, KeepsMarks, MarksReached}
 use Rattle.grammar_core.proofs.Marking.{kept_more, reached_more}

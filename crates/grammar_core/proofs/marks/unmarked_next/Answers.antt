@@ -1,6 +1,6 @@
-use Rattle.std.proofs.Common.{◌≡◌, ◌<◌, ◌∙◌, length, ap, sym, subst, arith}
+use Rattle.std.proofs.Common.{◌<◌, ◌∙◌, length, ap, sym, subst, arith}
 use Rattle.std.proofs.lemmas.List.{get_or_read}
-use Rattle.grammar_core.specs.Grammars.{blank, nonterminal_at}
+use Rattle.grammar_core.specs.Grammars.{blank}
 use Rattle.grammar_core.specs.Marks.{HasChild}
 use Rattle.grammar_core.proofs.Marking.{child_known, next_from}
 use Rattle.grammar_core.proofs.marks.unmarked_next.Goals as goal

@@ -1,4 +1,4 @@
-use Rattle.std.proofs.Common.{◌≡◌, take, drop, All}
+use Rattle.std.proofs.Common.{◌≡◌, take, All}
 use Rattle.grammar_core.proofs.parts.has_name.Given as goal
 
 abbrev pub invariant-loop-nonterminal : goal.invariant-loop-nonterminal

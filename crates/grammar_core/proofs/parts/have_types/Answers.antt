@@ -1,4 +1,4 @@
-use Rattle.std.proofs.Common.{◌≡◌, ◌+◌, ◌<◌, ◌∙◌, ◌&&◌, Bool, false, length, drop, get_or, ap, sym, arith, nat_eq}
+use Rattle.std.proofs.Common.{◌+◌, ◌<◌, ◌∙◌, ◌&&◌, length, drop, get_or, ap, sym, arith, nat_eq}
 use lib.Pointwise.{pointwise}
 use Rattle.std.proofs.lemmas.List.{get_or_read}
 use Rattle.sig_core.specs.declared.ids.TypeId.{TypeId}

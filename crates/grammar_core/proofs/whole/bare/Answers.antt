@@ -1,8 +1,8 @@
-use Rattle.std.proofs.Common.{◌≡◌, ℕ, ◌+◌, ◌<◌, ◌≤◌, ◌∙◌, ◌∷◌, ◌++◌, [], List, length, ap, ap₂, sym, subst, arith}
+use Rattle.std.proofs.Common.{◌≡◌, ℕ, ◌<◌, ◌∙◌, ◌∷◌, ◌++◌, [], List, length, ap, ap₂, sym, arith}
 use Rattle.sig_core.specs.declared.ids.TypeId.{TypeId}
 use Rattle.grammar_core.specs.Grammars.{Nonterminal}
 use Rattle.grammar_core.specs.Whole.{nonterminal_over}
-use Rattle.grammar_core.proofs.Filling.{bare_all, bare_first, bare_other, bare_to, named}
+use Rattle.grammar_core.proofs.Filling.{bare_all, bare_first, bare_other, named}
 use Rattle.grammar_core.proofs.whole.bare.Goals as goal
 use Rattle.grammar_core.proofs.whole.bare.Goals.{then-t-first+in_ok-nonterminal_of-2+in_ok-push-2, else-t-first}
 

@@ -1,9 +1,9 @@
-use Rattle.std.proofs.Common.{◌≡◌, ◌+◌, ◌<◌, ◌∙◌, ◌∷◌, ◌++◌, List, length, map, take, ap, ap₂, sym, subst, arith}
+use Rattle.std.proofs.Common.{◌∙◌, map, take, ap, sym, subst, arith}
 use Rattle.grammar_core.specs.declared.ids.NtId.{NtId}
 use Rattle.grammar_core.specs.declared.production.Production.{Production}
-use Rattle.grammar_core.specs.Grammars.{Nonterminal, IsKnown}
+use Rattle.grammar_core.specs.Grammars.{IsKnown}
 use Rattle.grammar_core.specs.Refusals.{with_production}
-use Rattle.grammar_core.specs.Whole.{nonterminal_for, whole_over}
+use Rattle.grammar_core.specs.Whole.{nonterminal_for}
 use Rattle.grammar_core.proofs.Filling.{constructor_of, fill_more, number_known, production_of}
 use Rattle.grammar_core.proofs.Keeping.{written}
 use Rattle.grammar_core.proofs.whole.fill.Goals as goal

@@ -1,6 +1,5 @@
 use Rattle.std.proofs.Common.{◌≡◌, take}
 use Rattle.grammar_core.specs.Whole.{whole_over}
-use Rattle.grammar_core.proofs.Numbering.{type_at}
 use Rattle.grammar_core.proofs.whole.fill.Given as goal
 
 abbrev pub invariant-loop-k : goal.invariant-loop-k

@@ -1,4 +1,4 @@
-use Rattle.std.proofs.Common.{◌≡◌, ◌+◌, ◌++◌, ◌∷◌, [], true, take, length, get_or, All, sym, ap, ◌∙◌, subst, arith}
+use Rattle.std.proofs.Common.{◌≡◌, ◌++◌, ◌∷◌, [], true, take, All, sym, ap, ◌∙◌, subst}
 use Rattle.std.proofs.lemmas.List.{take_all, take_more}
 use Rattle.term_core.specs.Terms.{node}
 use Rattle.problem_core.specs.Derivations.{Within}
@@ -7,7 +7,7 @@ use Rattle.semgus_app.specs.Constants.{parts_of}
 use Rattle.semgus_app.specs.Derivations.{Adds}
 use Rattle.semgus_app.specs.Searches.{meets}
 use Rattle.semgus_app.proofs.Deriving.{HasDerived, next, nothing_derived}
-use Rattle.semgus_app.proofs.Derivation.{is_derivation}
+use Rattle.semgus_app.proofs.Derivation.{is_derivation, on_constant}
 use Rattle.semgus_app.proofs.Ruling.{within-meets}
 use Rattle.semgus_app.proofs.derive.derive.Goals as goal
 
@@ -44,5 +44,8 @@ returns c =
     let p = parts_of c.args.problem.now in
     let items = c.as_slice-constraint-items.result.now in
     let all = take_all c.loop-constraint.constraint-index items c.loop-constraint-test.false ∙ c.as_slice-constraint-items.ensures in
-    is_derivation p c.args.con c.loop-constraint.steps c.loop-constraint.derived c.requires.constants
-    (subst (λ cs. HasDerived p.rules c.args.con cs c.loop-constraint.steps c.loop-constraint.derived) all c.loop-constraint.invariant)
+    let done : HasDerived p.rules c.args.con p.constraints c.loop-constraint.steps c.loop-constraint.derived =
+    subst (λ cs. HasDerived p.rules c.args.con cs c.loop-constraint.steps c.loop-constraint.derived) all c.loop-constraint.invariant in record {
+      on_constant = on_constant p c.args.con c.loop-constraint.steps c.loop-constraint.derived c.requires.constants done;
+      derivation = is_derivation p c.args.con c.loop-constraint.steps c.loop-constraint.derived c.requires.constants done;
+    }

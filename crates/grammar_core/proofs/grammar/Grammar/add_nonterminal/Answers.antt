@@ -1,8 +1,7 @@
-use Rattle.std.proofs.Common.{◌≡◌, ◌<◌, ◌∙◌, ◌∷◌, ◌++◌, [], None, length, nat_eq, is_some, ap, ap₂, sym, subst, arith}
+use Rattle.std.proofs.Common.{◌≡◌, ◌<◌, ◌∙◌, ◌∷◌, ◌++◌, [], None, length, nat_eq, is_some, ap, sym, subst, arith}
 use Rattle.sig_core.specs.Names.{place_of}
 use Rattle.grammar_core.specs.Grammars.{Nonterminal, names_of}
 use Rattle.grammar_core.specs.Kept.{IsKept}
-use Rattle.grammar_core.specs.Refusals.{with_nonterminal}
 use Rattle.grammar_core.proofs.Keeping.{IsKept-with_nonterminal}
 use Rattle.grammar_core.proofs.Naming.{absent}
 use Rattle.grammar_core.proofs.grammar.Grammar.add_nonterminal.Goals as goal

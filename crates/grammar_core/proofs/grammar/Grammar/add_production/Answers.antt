@@ -1,10 +1,8 @@
-use Rattle.std.proofs.Common.{◌≡◌, ◌+◌, ◌<◌, ◌∙◌, ◌∷◌, ◌++◌, [], List, Bool, length, set, get_or, All, ap, sym, subst, arith}
-use Rattle.std.proofs.lemmas.List.{get_or_read}
+use Rattle.std.proofs.Common.{◌+◌, ◌∙◌, length, All, ap, sym, subst, arith}
 use Rattle.grammar_core.specs.declared.production.Production.{Production}
-use Rattle.grammar_core.specs.Grammars.{Nonterminal, IsKnown, blank, nonterminal_at}
+use Rattle.grammar_core.specs.Grammars.{IsKnown}
 use Rattle.grammar_core.specs.Kept.{IsKept}
 use Rattle.grammar_core.specs.Marks.{IsClosed, MarksReached}
-use Rattle.grammar_core.specs.Refusals.{with_production}
 use Rattle.grammar_core.proofs.Keeping.{IsKept-with_production, written}
 use Rattle.grammar_core.proofs.grammar.Grammar.add_production.Goals as goal
 

@@ -1,4 +1,4 @@
-use Rattle.std.proofs.Common.{◌≡◌, ◌∙◌, ◌+◌, ◌-◌, ◌∷◌, length, replicate, true, false, ap, sym, subst, arith}
+use Rattle.std.proofs.Common.{◌≡◌, ◌∙◌, ◌-◌, length, false, ap, sym, subst, arith}
 use Rattle.std.proofs.lemmas.List.{length-replicate}
 use Rattle.grammar_core.specs.Kept.{IsKept}
 use Rattle.grammar_core.specs.Marks.{IsClosed, KeepsMarks, MarksReached}
