@@ -1,16 +1,15 @@
 -- The heading of the relation, and the relation that it declares.
-use Rattle.std.proofs.Common.{◌≡◌, ◌≢◌, ℕ, ◌+◌, ◌<◌, ◌≤◌, Bool, true, false, not, ◌&&◌, List, [], ◌∷◌, ◌++◌, length, map, get_or, subst, Option, Some, None, All, option_map, refl, sym, ap, ◌∙◌, rules, arith}
-use Rattle.std.specs.Prelude.{is_none, nat_le, AllPairs}
-use Rattle.std.specs.List.{list_all, AllPass}
+use Rattle.std.proofs.Common.{◌≡◌, ◌≢◌, ℕ, ◌<◌, Bool, true, false, not, ◌&&◌, List, [], ◌∷◌, ◌++◌, map, subst, Option, Some, None, All, option_map, refl, sym, ap, ◌∙◌, arith}
+use Rattle.std.specs.Prelude.{is_none}
+use Rattle.std.specs.List.{list_all}
 use Rattle.std.proofs.lemmas.List.{map-append}
 use Rattle.std.proofs.lemmas.List.Kept.{AllPairs-cons}
-use Rattle.std.proofs.lemmas.List.Sums.{AllPass-from_list_all}
 use Rattle.std.proofs.lemmas.List.Elements.{All-from_get_or, All-nil, All-cons}
 use Rattle.sig_core.specs.Names.{AreDistinct, place_of, is_reserved}
 use Rattle.sig_core.specs.WellFormed.{IsRelation, term_types, names_of_params}
 use Rattle.sig_core.proofs.NameLemmas.{other_name}
 use Rattle.semgus_app.specs.declared.first.heading.Heading.{Heading}
-use Rattle.semgus_app.specs.First.{last_apart, are_distinct, is_short, is_param_name, is_heading, param_names, term_param, input_param, output_param, relation_of}
+use Rattle.semgus_app.specs.First.{last_apart, are_distinct, is_short, is_param_name, is_heading, param_names, input_param, output_param, relation_of}
 use Rattle.semgus_app.specs.Constants.{the_type}
 
 pub last_apart_push : (xs : List (List ℕ)) (x : List ℕ) → last_apart (xs ++ x ∷ []) ≡ Some (xs, x)

@@ -1,14 +1,13 @@
 -- What is due for a file, by what reading it, searching and printing gave.
-use Rattle.std.proofs.Common.{◌≡◌, ◌≤◌, ◌<◌, ◌↔◌, ℕ, List, [], ◌∷◌, Option, Some, None, IfSome, MatchOption, option_map, length, codes, Contains, get_or, zero, suc, refl, sym, ap, ◌∙◌, subst, arith}
+use Rattle.std.proofs.Common.{◌≡◌, ◌≤◌, ◌<◌, ℕ, List, [], ◌∷◌, Option, Some, None, IfSome, MatchOption, option_map, length, codes, Contains, get_or, zero, suc, refl, sym, ap, ◌∙◌, subst, arith}
 use Rattle.sig_core.specs.declared.ids.ConId.{ConId}
 use Rattle.sexpr_core.specs.declared.form.Sexpr.{Sexpr}
 use Rattle.sexpr_core.specs.Lexicon.{IsPlain}
 use Rattle.sexpr_core.specs.Spelling.{Spell}
 use Rattle.sexpr_core.proofs.Once.{spells_once}
 use Rattle.term_core.specs.declared.tree.Tree.{Tree}
-use Rattle.term_core.specs.Terms.{node, kids_of, term_cmp, IsSubterm, itself, below, AreNodesOf}
+use Rattle.term_core.specs.Terms.{node, kids_of, IsSubterm, itself, below, AreNodesOf}
 use Rattle.term_core.proofs.Parts.{kids_of-node}
-use Rattle.std.specs.declared.cmp.Ordering.TheVariants.{Less}
 use Rattle.problem_core.specs.Problems.{Parts, IsAnswer}
 use Rattle.semgus_app.specs.declared.problem.Problem.{Problem}
 use Rattle.semgus_app.specs.declared.status.Status.{Status}

@@ -1,5 +1,5 @@
 -- What a run that ends with a status says of the counts and of the bytes of its file.
-use Rattle.std.proofs.Common.{◌≡◌, ◌⊎◌, ◌≤◌, ◌<◌, ℕ, List, [], ◌∷◌, Option, Some, None, take, refl, sym, ap, ◌∙◌, subst, codes, inl, inr, arith}
+use Rattle.std.proofs.Common.{◌≡◌, ◌⊎◌, ◌≤◌, ℕ, List, Option, Some, None, take, refl, sym, ap, ◌∙◌, subst, codes, inl, inr, arith}
 use Rattle.sexpr_core.proofs.Once.{spells_once}
 use Rattle.problem_core.specs.Problems.{Parts, IsAnswer}
 use Rattle.problem_core.proofs.Answers.{one_answer}
@@ -10,7 +10,7 @@ use Rattle.semgus_app.specs.declared.status.Status.TheVariants.{Found, NoTerm, B
 use Rattle.semgus_app.specs.declared.status.Which.{Which}
 use Rattle.semgus_app.specs.declared.status.Fault.{Fault}
 use Rattle.semgus_app.specs.Commands.{IsSolve}
-use Rattle.semgus_app.specs.Dues.{IsJudged, HasCause, cannot_open_line, read_fault_line}
+use Rattle.semgus_app.specs.Dues.{IsJudged, HasCause}
 use Rattle.semgus_io.specs.Writes.{Grows, GrowsByPart}
 use Rattle.semgus_app.specs.FileDues.{IsDue, IsAnswerDue, IsAnswerText, IsNoneText, IsOutput, NoneRose, status_of, whole_refusal}
 use Rattle.semgus_app.specs.First.{first_of}

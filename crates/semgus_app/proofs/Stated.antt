@@ -1,13 +1,12 @@
 -- What is known of a problem that the commands of a file of the first form state.
-use Rattle.std.proofs.Common.{◌≡◌, ℕ, ◌+◌, ◌<◌, ◌≤◌, Bool, true, false, ◌&&◌, cond, List, [], ◌∷◌, ◌++◌, length, map, Option, Some, None, All, option_map, option_and_then, refl, sym, ap, ◌∙◌, subst, inl, inr, if◌then◌else◌, ◌⊎◌, rules, arith}
-use Rattle.std.specs.Prelude.{is_none, nat_eq, nat_lt, IfSome, slice_get}
+use Rattle.std.proofs.Common.{◌≡◌, ℕ, ◌+◌, ◌<◌, Bool, true, false, ◌&&◌, List, [], ◌∷◌, ◌++◌, length, map, Option, Some, None, All, option_map, refl, sym, ap, ◌∙◌, subst, inl, inr, if◌then◌else◌, ◌⊎◌, arith}
+use Rattle.std.specs.Prelude.{nat_eq, nat_lt, IfSome, slice_get}
 use Rattle.std.proofs.lemmas.Bool.{eqb-true}
-use Rattle.std.proofs.lemmas.List.{length-append, length-map}
+use Rattle.std.proofs.lemmas.List.{length-append}
 use Rattle.std.proofs.lemmas.List.Elements.{All-push, All-nil, All-cons, All-weaker}
 use Rattle.sig_core.specs.declared.value.Value.{Value}
 use Rattle.sig_core.specs.declared.value.Sort.{Sort}
 use Rattle.sig_core.specs.declared.value.Sort.TheVariants as sort
-use Rattle.sig_core.specs.declared.signature.Constructor.{Constructor}
 use Rattle.sig_core.specs.Lists.{all_some}
 use Rattle.sig_core.specs.Values.{sort_of}
 use Rattle.sig_core.specs.Signatures.{Declarations, kinds_of, plain_sorts}
@@ -16,13 +15,13 @@ use Rattle.rule_core.specs.declared.rule.Rule.{Rule}
 use Rattle.rule_core.specs.Instances.{calls_of}
 use Rattle.problem_core.specs.declared.parts.Constraint.{Constraint}
 use Rattle.problem_core.specs.Problems.{Parts}
-use Rattle.sexpr_core.specs.declared.form.Sexpr.{Sexpr, out-Sexpr}
+use Rattle.sexpr_core.specs.declared.form.Sexpr.{Sexpr}
 use Rattle.semgus_app.specs.declared.problem.Problem.{Problem}
 use Rattle.semgus_app.specs.declared.first.heading.Heading.{Heading}
 use Rattle.semgus_app.specs.declared.first.functions.Defined.{Defined}
 use Rattle.semgus_app.specs.Constants.{the_type, parts_of, HasConstants}
 use Rattle.semgus_app.specs.Shapes.{when, ◌>>=◌, constant_of, items_of, numeral_of}
-use Rattle.semgus_app.specs.First.{the_relation, constant_named, with_constant, with_constants, with_the_type, type_parts_of, types_of, case_of, case_parts_of, rule_with, cases_of, def_in, few_rules, rules_in, with_accepted, with_heading, relation_of, input_param, output_param, function_parts_of, decl_in, defined_with, functions_of, value_of_digits, number_from, number_of, values_of, example_in, constraint_in, constraint_with, constraint_of, constraints_of, few_constraints, some_constraints, stated, stated_by, commands_of, defined_by, wanted_of, first_of, is_check}
+use Rattle.semgus_app.specs.First.{the_relation, constant_named, with_constant, with_constants, with_the_type, type_parts_of, types_of, case_of, case_parts_of, rule_with, cases_of, def_in, few_rules, rules_in, with_accepted, with_heading, relation_of, input_param, output_param, function_parts_of, decl_in, defined_with, functions_of, value_of_digits, number_from, number_of, values_of, example_in, constraint_in, constraint_with, constraint_of, constraints_of, few_constraints, some_constraints, stated, stated_by, defined_by, wanted_of, first_of, is_check}
 
 bound : {A B : Type 0} (o : Option A) (f : A → Option B) (y : B) → (o >>= f) ≡ Some y → (x : A) × (o ≡ Some x) × (f x ≡ Some y)
 bound None f y h = absurd (cc)

@@ -12,7 +12,7 @@ use Rattle.sig_core.specs.declared.signature.Constructor.{Constructor}
 use Rattle.sig_core.specs.declared.signature.Kind.TheVariants as kind
 use Rattle.sig_core.specs.declared.signature.Param.{Param}
 use Rattle.sig_core.specs.declared.signature.Relation.{Relation}
-use Rattle.sig_core.specs.Lists.{all_some, numbers_from}
+use Rattle.sig_core.specs.Lists.{all_some}
 use Rattle.sig_core.specs.Names.{place_of, is_reserved}
 use Rattle.sig_core.specs.Signatures.{Declarations}
 use Rattle.sig_core.specs.Refusals.{type_refusal, constructor_refusal, relation_refusal, with_type, with_constructor, with_relation}

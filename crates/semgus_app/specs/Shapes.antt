@@ -1,7 +1,6 @@
 -- Forms by their shape.
-use Rattle.std.specs.Prelude.{ℕ, Bool, false, if◌then◌else◌, Option, Some, None, List, [], ◌∷◌, map, option_and_then}
+use Rattle.std.specs.Prelude.{ℕ, Bool, false, if◌then◌else◌, Option, Some, None, List, [], ◌∷◌, option_and_then}
 use Rattle.std.specs.Option.{option_map_or}
-use Rattle.sig_core.specs.Lists.{all_some}
 use Rattle.sig_core.specs.Names.{same_name}
 use Rattle.sexpr_core.specs.declared.form.Sexpr.{Sexpr, out-Sexpr}
 use Rattle.sexpr_core.specs.declared.form.Nest.{Nest}
@@ -68,7 +67,3 @@ constant_in _ = None
 -- the name in `s` or `(s)`
 abbrev pub constant_of : Sexpr → Option (List ℕ)
 constant_of form = constant_in (out-Sexpr form)
-
--- the names of a list of symbols
-abbrev pub symbols_of : List Sexpr → Option (List (List ℕ))
-symbols_of forms = all_some (map symbol_of forms)

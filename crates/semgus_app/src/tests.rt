@@ -24,7 +24,7 @@ const TINY_ANSWER: &str =
     "(answer 1)\n(term $a)\n(size 1)\n(node 0 $a)\n(step 0 S 0 0 (1) ())\n(derived 0 0)\n";
 
 /// Texts of files, with the status and the output of `solve` with bounds of 1.
-const ANSWERS: [(&str, Status, &str); 8] = [
+const ANSWERS: [(&str, Status, &str); 9] = [
     (TINY, Status::Found, TINY_ANSWER),
     (
         "(declare-term-types ((E 0)) (($a)))(define-funs-rec ((S ((t E) (r Int)) Bool)) ((! (match t (($a (= r 1)))) :input () :output (r))))(synth-fun f () E)(constraint (S f 2))(check-synth)",
@@ -42,6 +42,12 @@ const ANSWERS: [(&str, Status, &str); 8] = [
         "(declare-term-types ((E 0)) (($a ($b) $d $c)))(define-funs-rec ((S ((t E) (x Int) (y Int) (r Int)) Bool)) ((! (match t (($a (= r 1)) (($b) (= r x)) ($c (= r y)))) :input (x y) :output (r))))(synth-fun f () E)(constraint (S f 7 170141183460469231731687303715884105727 170141183460469231731687303715884105727))(check-synth)",
         Status::Found,
         "(answer 1)\n(term $c)\n(size 1)\n(node 0 $c)\n(step 0 S 0 0 (7 170141183460469231731687303715884105727 170141183460469231731687303715884105727) ())\n(derived 0 0)\n",
+    ),
+    // The last of 50 constructors solves, by the last of three inputs.
+    (
+        "(declare-term-types ((E 0)) (($c0 $c1 $c2 $c3 $c4 $c5 $c6 $c7 $c8 $c9 $c10 $c11 $c12 $c13 $c14 $c15 $c16 $c17 $c18 $c19 $c20 $c21 $c22 $c23 $c24 $c25 $c26 $c27 $c28 $c29 $c30 $c31 $c32 $c33 $c34 $c35 $c36 $c37 $c38 $c39 $c40 $c41 $c42 $c43 $c44 $c45 $c46 $c47 $c48 $c49)))(define-funs-rec ((S ((t E) (x Int) (y Int) (z Int) (r Int)) Bool)) ((! (match t (($c0 (= r 0)) ($c1 (= r 1)) ($c2 (= r 2)) ($c3 (= r 3)) ($c4 (= r 4)) ($c5 (= r 5)) ($c6 (= r 6)) ($c7 (= r 7)) ($c8 (= r 8)) ($c9 (= r 9)) ($c10 (= r 10)) ($c11 (= r 11)) ($c12 (= r 12)) ($c13 (= r 13)) ($c14 (= r 14)) ($c15 (= r 15)) ($c16 (= r 16)) ($c17 (= r 17)) ($c18 (= r 18)) ($c19 (= r 19)) ($c20 (= r 20)) ($c21 (= r 21)) ($c22 (= r 22)) ($c23 (= r 23)) ($c24 (= r 24)) ($c25 (= r 25)) ($c26 (= r 26)) ($c27 (= r 27)) ($c28 (= r 28)) ($c29 (= r 29)) ($c30 (= r 30)) ($c31 (= r 31)) ($c32 (= r 32)) ($c33 (= r 33)) ($c34 (= r 34)) ($c35 (= r 35)) ($c36 (= r 36)) ($c37 (= r 37)) ($c38 (= r 38)) ($c39 (= r 39)) ($c40 (= r 40)) ($c41 (= r 41)) ($c42 (= r 42)) ($c43 (= r 43)) ($c44 (= r 44)) ($c45 (= r 45)) ($c46 (= r 46)) ($c47 (= r 47)) ($c48 (= r 48)) ($c49 (= r z)))) :input (x y z) :output (r))))(synth-fun f () E)(constraint (S f 7 8 99 99))(check-synth)",
+        Status::Found,
+        "(answer 1)\n(term $c49)\n(size 1)\n(node 0 $c49)\n(step 0 S 0 0 (7 8 99 99) ())\n(derived 0 0)\n",
     ),
     // Without constraints the first term solves.
     (

@@ -1,4 +1,4 @@
-use Rattle.std.proofs.Common.{◌≡◌, ℕ, Some, List, [], ◌∷◌, length, slice_get, codes, refl, sym, ◌∙◌, arith}
+use Rattle.std.proofs.Common.{◌≡◌, ℕ, Some, List, [], ◌∷◌, length, slice_get, codes, sym, ◌∙◌, arith}
 use Rattle.semgus_app.proofs.Texts.{texts_same}
 use Rattle.semgus_app.proofs.command.solve_of.Goals as goal
 

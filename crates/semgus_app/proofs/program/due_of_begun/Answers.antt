@@ -1,4 +1,4 @@
-use Rattle.std.proofs.Common.{◌≡◌, List, ℕ, take, ◌∙◌, subst}
+use Rattle.std.proofs.Common.{List, ℕ, ◌∙◌, subst}
 use Rattle.semgus_app.specs.FileDues.{IsDue}
 use Rattle.semgus_app.proofs.program.due_of_begun.Goals as goal
 
