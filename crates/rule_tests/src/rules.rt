@@ -1,0 +1,109 @@
+ghost use Rattle.std.specs.Prelude.{◌<◌, ◌≤◌, ◌^◌, length, All, IfOk};
+ghost use Rattle.expr_core.specs.Expressions.{node_count};
+ghost use Rattle.rule_core.specs.Examples.{sums};
+ghost use Rattle.rule_core.specs.Rulebooks.{HasSmallParts, IsRuleOf};
+
+use expr_core::{Expr, Kids, Op};
+use rule_core::{Atom, Atoms, Call, Names, Rule, Var, Vars, Who};
+use sig_core::{Bytes, ConId, RelId, Sort, Value};
+use std::alloc::{AllocError, Global};
+
+/// The relation of a term and its output, in slot 0.
+pub const GIVES: RelId = RelId(0);
+
+/// The relation of a term, its input in slot 0, and its output in slot 1.
+pub const MAPS: RelId = RelId(1);
+
+pub fn no_variable(alloc: Global) -> Vars
+    ensures { length result ≤ 1 }
+{
+    Vars::new(alloc)
+}
+
+pub fn one_variable(alloc: Global) -> Result<Vars, AllocError>
+    ensures { IfOk result (λ vars. length vars ≤ 1) }
+{
+    let mut name = Bytes::new(alloc);
+    name.append(b"v")?;
+    let mut vars = Vars::new(alloc);
+    vars.push(Var {
+        name,
+        sort: Sort::Int,
+    })?;
+    Ok(vars)
+}
+
+pub fn rule(alloc: Global, relation: RelId, more: Vars, atoms: Atoms) -> Rule
+    requires relation { relation.0 < 2 }
+    requires more { length more ≤ 1 }
+    requires few { length atoms ≤ 2 }
+    requires small { All HasSmallParts atoms }
+    ensures { IsRuleOf sums result }
+{
+    Rule {
+        relation,
+        con: ConId(0),
+        kid_names: Names::new(alloc),
+        more,
+        atoms,
+    }
+}
+
+/// A call with one input and one output.
+pub fn call(
+    alloc: Global,
+    relation: RelId,
+    who: Who,
+    input: Expr,
+    output: Expr,
+) -> Result<Atom, AllocError>
+    requires input { node_count input < 2 ^ 32 }
+    requires output { node_count output < 2 ^ 32 }
+    ensures { IfOk result HasSmallParts }
+{
+    let mut inputs = Kids::new(alloc);
+    inputs.push(input)?;
+    let mut outputs = Kids::new(alloc);
+    outputs.push(output)?;
+    Ok(Atom::Call(Call {
+        relation,
+        who,
+        inputs,
+        outputs,
+    }))
+}
+
+pub fn pair(alloc: Global, first: Atom, second: Atom) -> Result<Atoms, AllocError>
+    requires first { HasSmallParts first }
+    requires second { HasSmallParts second }
+    ensures { IfOk result (λ atoms. (length atoms ≤ 2) × All HasSmallParts atoms) }
+{
+    let mut atoms = Atoms::new(alloc);
+    atoms.push(first)?;
+    atoms.push(second)?;
+    Ok(atoms)
+}
+
+pub fn alone(alloc: Global, atom: Atom) -> Result<Atoms, AllocError>
+    requires { HasSmallParts atom }
+    ensures { IfOk result (λ atoms. (length atoms ≤ 2) × All HasSmallParts atoms) }
+{
+    let mut atoms = Atoms::new(alloc);
+    atoms.push(atom)?;
+    Ok(atoms)
+}
+
+pub fn slot(number: u8) -> Expr
+    ensures { node_count result < 2 ^ 32 }
+{
+    Expr::Slot(number)
+}
+
+pub fn successor(alloc: Global, number: u8) -> Result<Expr, AllocError>
+    ensures { IfOk result (λ expr. node_count expr < 2 ^ 32) }
+{
+    let mut kids = Kids::new(alloc);
+    kids.push(Expr::Slot(number))?;
+    kids.push(Expr::Lit(Value::Int(1)))?;
+    Ok(Expr::Apply(Op::Add, kids))
+}

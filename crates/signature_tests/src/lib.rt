@@ -1,0 +1,5 @@
+//! Tests of signatures at their limits.
+#![tactic(auto)]
+
+#[cfg(test)]
+mod limits;
