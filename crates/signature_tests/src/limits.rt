@@ -47,7 +47,10 @@ fn past_the_last(alloc: Global, name: &[u8]) -> Result<ConId, SigError> {
 #[test]
 fn the_constructor_past_4096_is_refused(rt: HostRuntime) {
     assert_eq!(rt; past_the_last(rt.alloc(), b"d"), Err(SigError::Limit(6)));
-    assert_eq!(rt; past_the_last(rt.alloc(), &[b'c', 15, 255]), Err(SigError::Twice));
+    assert_eq!(rt;
+        past_the_last(rt.alloc(), &[b'c', 15, 255]),
+        Err(SigError::Twice)
+    );
 }
 
 #[test]
