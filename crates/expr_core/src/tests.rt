@@ -133,6 +133,63 @@ fn operators_on_two_numbers(rt: HostRuntime) -> Result<(), Fail> {
 }
 
 #[test]
+fn chains_of_two_numbers(rt: HostRuntime) -> Result<(), Fail> {
+    let alloc = rt.alloc();
+    for (op, a, b, wanted) in [
+        (Op::Less, 1, 2, true),
+        (Op::Less, 2, 2, false),
+        (Op::AtMost, 2, 2, true),
+        (Op::AtMost, 2, 1, false),
+        (Op::Greater, 2, 1, true),
+        (Op::Greater, 2, 2, false),
+        (Op::AtLeast, 2, 2, true),
+        (Op::AtLeast, 1, 2, false),
+        (Op::Equal, 2, 2, true),
+        (Op::Equal, MIN, MAX, false),
+        (Op::Distinct, MIN, MAX, true),
+        (Op::Distinct, 2, 2, false),
+    ] {
+        let expr = binary(alloc, op, int(a), int(b))?;
+        gives(&rt, &expr, Some(Value::Bool(wanted)));
+    }
+    Ok(())
+}
+
+#[test]
+fn operators_on_two_truths(rt: HostRuntime) -> Result<(), Fail> {
+    let alloc = rt.alloc();
+    for (op, a, b, wanted) in [
+        (Op::And, true, true, Some(true)),
+        (Op::Or, false, false, Some(false)),
+        (Op::Xor, true, false, Some(true)),
+        (Op::Implies, false, false, Some(true)),
+        (Op::Implies, true, false, Some(false)),
+        (Op::Equal, true, true, Some(true)),
+        (Op::Equal, true, false, Some(false)),
+        (Op::Distinct, true, false, Some(true)),
+        (Op::Not, true, true, None),
+        (Op::Ite, true, true, None),
+        (Op::Less, true, false, None),
+    ] {
+        let expr = binary(alloc, op, truth(a), truth(b))?;
+        gives(&rt, &expr, wanted.map(Value::Bool));
+    }
+    Ok(())
+}
+
+#[test]
+fn too_many_operands(rt: HostRuntime) -> Result<(), Fail> {
+    let alloc = rt.alloc();
+    gives(&rt, &binary(alloc, Op::Abs, int(1), int(2))?, None);
+    let mut kids = Kids::new(alloc);
+    for _ in 0..4u8 {
+        kids.push(truth(true))?;
+    }
+    gives(&rt, &Expr::Apply(Op::Ite, kids), None);
+    Ok(())
+}
+
+#[test]
 fn partial_results_out_of_range(rt: HostRuntime) -> Result<(), Fail> {
     let alloc = rt.alloc();
     for (op, a, b, c, wanted) in [
@@ -336,5 +393,7 @@ fn operands_of_the_wrong_sort(rt: HostRuntime) -> Result<(), Fail> {
         condition.sort_of(&[]),
         Err(SortFault { node: 1, reason: 3 })
     );
+    let nested = unary(alloc, Op::Not, unary(alloc, Op::Abs, truth(true))?)?;
+    assert_eq!(rt; nested.sort_of(&[]), Err(SortFault { node: 1, reason: 3 }));
     Ok(())
 }
