@@ -27,3 +27,7 @@ failing_begins m = m.failing_begins
 
 abbrev pub failing_takes : MemoryFiles → List ℕ
 failing_takes m = m.failing_takes
+
+-- how many bytes a take gives at most
+abbrev pub most_at_once : MemoryFiles → ℕ
+most_at_once m = m.most_at_once

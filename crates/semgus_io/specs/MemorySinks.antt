@@ -8,3 +8,7 @@ taken_bytes s = take s.len s.room.items
 -- the calls that are to fail, counted from 1
 abbrev pub failing_puts : MemorySink → List ℕ
 failing_puts s = s.failing_puts
+
+-- how many bytes a put takes at most
+abbrev pub most_at_once : MemorySink → ℕ
+most_at_once s = s.most_at_once

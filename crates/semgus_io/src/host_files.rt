@@ -1,4 +1,4 @@
-ghost use Rattle.std.specs.Prelude.{None, false};
+ghost use Rattle.std.specs.Prelude.{◌≡◌, None, false};
 
 use crate::{Failed, Files};
 use std::io::Read;
@@ -18,7 +18,9 @@ pub struct HostFiles<'a, R: rt::Files> {
 
 impl<'a, R: rt::Files> HostFiles<'a, R> {
     /// Opens nothing.
-    pub fn new(runtime: &'a R) -> HostFiles<'a, R> {
+    pub fn new(runtime: &'a R) -> HostFiles<'a, R>
+        ensures { (result.open_faults ≡ 0) × (result.read_faults ≡ 0) × (result.taken ≡ 0) }
+    {
         HostFiles {
             runtime,
             open: None,

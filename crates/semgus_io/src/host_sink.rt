@@ -1,4 +1,4 @@
-ghost use Rattle.std.specs.Prelude.{None};
+ghost use Rattle.std.specs.Prelude.{◌≡◌, None};
 
 use crate::{Failed, Sink};
 use std::io::Print;
@@ -14,7 +14,9 @@ pub struct HostSink<'a, P: Print> {
 
 impl<'a, P: Print> HostSink<'a, P> {
     /// Opens nothing.
-    pub fn new(runtime: &'a P) -> HostSink<'a, P> {
+    pub fn new(runtime: &'a P) -> HostSink<'a, P>
+        ensures { result.faults ≡ 0 }
+    {
         HostSink { runtime, faults: 0 }
     }
 }

@@ -33,7 +33,7 @@ pub struct MemoryFiles {
 }
 
 impl MemoryFiles {
-    ghost use Rattle.semgus_io.specs.Memory.{held, failing_begins, failing_takes};
+    ghost use Rattle.semgus_io.specs.Memory.{held, failing_begins, failing_takes, most_at_once};
 
     /// Holds no file. A take gives as many bytes as there are and its buffer has room for.
     pub fn new(alloc: Global) -> MemoryFiles
@@ -71,7 +71,8 @@ impl MemoryFiles {
     /// Lets each take give at most n bytes.
     pub fn piece(&mut self, n: usize)
         requires { 0 < n }
-        ensures { (name : List ℕ) → held self.new name ≡ held self.old name }
+        ensures most { most_at_once self.new ≡ n }
+        ensures held { (name : List ℕ) → held self.new name ≡ held self.old name }
     {
         self.most_at_once = n;
     }

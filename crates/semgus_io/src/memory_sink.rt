@@ -18,7 +18,7 @@ pub struct MemorySink {
 }
 
 impl MemorySink {
-    ghost use Rattle.semgus_io.specs.MemorySinks.{taken_bytes, failing_puts};
+    ghost use Rattle.semgus_io.specs.MemorySinks.{taken_bytes, failing_puts, most_at_once};
 
     pub fn new(alloc: Global, room: usize) -> Result<MemorySink, AllocError>
         ensures { IfOk result (λ sink. taken_bytes sink ≡ []) }
@@ -36,7 +36,8 @@ impl MemorySink {
     /// Lets each put take at most n bytes.
     pub fn piece(&mut self, n: usize)
         requires { 0 < n }
-        ensures { taken_bytes self.new ≡ taken_bytes self.old }
+        ensures most { most_at_once self.new ≡ n }
+        ensures taken { taken_bytes self.new ≡ taken_bytes self.old }
     {
         self.most_at_once = n;
     }
