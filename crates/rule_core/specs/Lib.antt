@@ -1,4 +1,4 @@
 pub mod Instances
 pub mod Rulebooks
 pub mod Flow
-pub mod Examples
+pub mod Tables

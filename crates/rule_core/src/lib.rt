@@ -5,8 +5,7 @@ mod flow;
 mod handing;
 mod rule;
 mod rulebook;
-#[cfg(test)]
-mod tests;
+mod tables;
 
 pub use flow::{AddError, FlowFault};
 pub use rule::{Atom, Atoms, Call, Names, Rule, Var, Vars, Who};

@@ -1,11 +1,13 @@
 ghost use Rattle.std.specs.Prelude.{◌≡◌, ◌<◌, ◌≤◌, ◌++◌, [], ◌∷◌, ◌↔◌, IsTrue, None, length, slice_get, IfErr, OnOk, OnErr};
-ghost use Rattle.std.specs.Option.{option_copied};
+ghost use Rattle.std.specs.Option.{option_copied, option_and_then};
 ghost use Rattle.rule_core.specs.Flow.{flow_fault, IsDetermined, HandsOn};
 ghost use Rattle.rule_core.specs.Rulebooks.{rules_for, rules_of, IsRuleOf, IsDue};
 
 use crate::flow::{AddError, flow_fault};
 use crate::handing::rule_hands_on;
 use crate::rule::Rule;
+use crate::tables::{Table, list_at, push_both};
+use indexmap::IndexMap;
 use items::Items;
 use sig_core::{ConId, RelId, Signature};
 use std::alloc::Global;
@@ -16,6 +18,10 @@ use std::marker::Model;
 pub struct Rulebook {
     alloc: Global,
     rules: Items<Rule>,
+    /// the numbers of the rules of each relation and constructor
+    pairs: Table<(u16, u16)>,
+    /// the numbers of the rules of each relation
+    relations: Table<u16>,
 }
 
 impl Model for Rulebook {
@@ -23,6 +29,7 @@ impl Model for Rulebook {
     ghost use Rattle.rule_core.specs.declared.rule.Rule.{Rule};
     ghost use Rattle.std.specs.Coded.{codes};
     ghost use Rattle.expr_core.specs.contracts.expr.Expr as expr;
+    ghost use Rattle.rule_core.specs.Tables.{HaveNumbers};
 
     ghost Value = { List Rule };
 
@@ -30,7 +37,7 @@ impl Model for Rulebook {
 
     ghost view = { λ b. b.rules };
 
-    ghost invariant = { λ b. length b.rules ≤ 16384 };
+    ghost invariant = { λ b. (length b.rules ≤ 16384) × HaveNumbers b.pairs b.relations b.rules };
 }
 
 impl Rulebook {
@@ -40,6 +47,8 @@ impl Rulebook {
         Rulebook {
             alloc,
             rules: Items::new(alloc),
+            pairs: IndexMap::new(alloc),
+            relations: IndexMap::new(alloc),
         }
     }
 
@@ -64,7 +73,21 @@ impl Rulebook {
         if let Some(fault) = flow_fault(self.alloc, signature, &rule)? {
             return Err(AddError::Flow(fault));
         }
+        let pair = (rule.relation.0, rule.con.0);
+        let number = self.rules.len() as u32;
         self.rules.push(rule)?;
+        if push_both(
+            self.alloc,
+            &mut self.pairs,
+            &mut self.relations,
+            pair,
+            number,
+        )
+        .is_err()
+        {
+            self.rules.pop();
+            return Err(AddError::Memory);
+        }
         Ok(())
     }
 
@@ -72,45 +95,29 @@ impl Rulebook {
     pub fn count(&self, relation: RelId, con: ConId) -> u32
         ensures { result ≡ length (rules_for self.now relation con) }
     {
-        let mut count = 0;
-        for rule in self.rules.as_slice() {
-            if rule.relation == relation && rule.con == con {
-                count += 1;
-            }
-        }
-        count
+        list_at(&self.pairs, &(relation.0, con.0)).len() as u32
     }
 
     /// The rule with this number among those that the relation has for the constructor, from 0.
     pub fn rule(&self, relation: RelId, con: ConId, k: u32) -> Option<&Rule>
         ensures { option_copied result ≡ slice_get (rules_for self.now relation con) k }
     {
-        let mut left = k;
-        for rule in self.rules.as_slice() {
-            if rule.con == con && rule.relation == relation {
-                if left == 0 {
-                    return Some(rule);
-                }
-                left -= 1;
-            }
-        }
-        None
+        self.numbered(list_at(&self.pairs, &(relation.0, con.0)), k)
     }
 
     /// The rule with this number among all rules of the relation, from 0.
     pub fn of_relation(&self, relation: RelId, k: u32) -> Option<&Rule>
         ensures { option_copied result ≡ slice_get (rules_of self.now relation) k }
     {
-        let mut left = k;
-        for rule in self.rules.as_slice() {
-            if rule.relation == relation {
-                if left == 0 {
-                    return Some(rule);
-                }
-                left -= 1;
-            }
-        }
-        None
+        self.numbered(list_at(&self.relations, &relation.0), k)
+    }
+
+    /// The rule whose number stands at this place of the list.
+    fn numbered(&self, numbers: &[u32], at: u32) -> Option<&Rule>
+        ensures { option_copied result ≡ option_and_then (slice_get self.now) (slice_get numbers.now at) }
+    {
+        let number = *items::at(numbers, at as usize)?;
+        items::at(self.rules.as_slice(), number as usize)
     }
 
     /// Whether the constructor hands on at the child: in each of its rules, each call on the child and each call on

@@ -1,42 +1,75 @@
-ghost use Rattle.std.specs.Prelude.{◌<◌, IfOk};
-ghost use Rattle.rule_core.specs.Examples.{sums};
+ghost use Rattle.std.specs.Prelude.{◌<◌, ◌^◌, IfOk};
+ghost use Rattle.expr_core.specs.Expressions.{node_count};
 ghost use Rattle.rule_core.specs.Rulebooks.{HasSmallParts, IsRuleOf};
+ghost use Rattle.rule_tests.specs.Examples.{example};
 
-use crate::language::sums;
-use crate::rules::{GIVES, MAPS, alone, call, no_variable, rule, slot, successor};
+use crate::language::example;
+use crate::rules::{GIVES, MAPS, PLUS, alone, call, rule, slot, successor, variables};
 use expr_core::Expr;
 use rule_core::{AddError, Atom, Rule, Rulebook, Who};
-use sig_core::{ConId, RelId, Signature, Value};
+use sig_core::{RelId, Value};
 use std::alloc::Global;
 
 /// A rule of a relation with one atom.
 fn with_atom(alloc: Global, relation: RelId, atom: Atom) -> Result<Rule, AddError>
     requires relation { relation.0 < 2 }
     requires atom { HasSmallParts atom }
-    ensures { IfOk result (IsRuleOf sums) }
+    ensures { IfOk result (IsRuleOf example) }
 {
     let atoms = alone(alloc, atom)?;
-    Ok(rule(alloc, relation, no_variable(alloc), atoms))
+    Ok(rule(alloc, relation, PLUS, variables(alloc, 0)?, atoms))
+}
+
+/// Whether the sum hands on at each child, by the rule.
+fn handed_alone(alloc: Global, rule: Rule) -> Result<(bool, bool), AddError>
+    requires { IsRuleOf example rule }
+{
+    let Ok(signature) = example(alloc) else {
+        return Err(AddError::Memory);
+    };
+    let mut book = Rulebook::new(alloc);
+    book.add(&signature, rule)?;
+    let left = book.hands_on(&signature, PLUS, 0);
+    Ok((left, book.hands_on(&signature, PLUS, 1)))
 }
 
 /// Whether the sum hands on at each child, by the rules in order.
 fn handed(alloc: Global, first: Rule, second: Rule) -> Result<(bool, bool), AddError>
-    requires first { IsRuleOf sums first }
-    requires second { IsRuleOf sums second }
+    requires first { IsRuleOf example first }
+    requires second { IsRuleOf example second }
 {
-    let Ok(signature) = sums(alloc) else {
+    let Ok(signature) = example(alloc) else {
         return Err(AddError::Memory);
     };
     let mut book = Rulebook::new(alloc);
     book.add(&signature, first)?;
     book.add(&signature, second)?;
-    let left = book.hands_on(&signature, ConId(0), 0);
-    Ok((left, book.hands_on(&signature, ConId(0), 1)))
+    let left = book.hands_on(&signature, PLUS, 0);
+    Ok((left, book.hands_on(&signature, PLUS, 1)))
+}
+
+/// The rule asks for the first child at the input.
+fn on_child(alloc: Global, input: Expr) -> Result<Rule, AddError>
+    requires { node_count input < 2 ^ 32 }
+    ensures { IfOk result (IsRuleOf example) }
+{
+    let atom = call(alloc, MAPS, Who::Child(0), input, slot(1))?;
+    with_atom(alloc, MAPS, atom)
+}
+
+fn same_input(alloc: Global) -> Result<(bool, bool), AddError> {
+    let rule = on_child(alloc, slot(0))?;
+    handed_alone(alloc, rule)
+}
+
+fn shifted_input(alloc: Global) -> Result<(bool, bool), AddError> {
+    let further = successor(alloc, 0)?;
+    let rule = on_child(alloc, further)?;
+    handed_alone(alloc, rule)
 }
 
 /// The second relation's rule asks for the first child at 1.
 fn second_relation(alloc: Global) -> Result<(bool, bool), AddError> {
-    let on = call(alloc, MAPS, Who::Child(0), slot(0), slot(1))?;
     let at_1 = call(
         alloc,
         MAPS,
@@ -44,16 +77,25 @@ fn second_relation(alloc: Global) -> Result<(bool, bool), AddError> {
         Expr::Lit(Value::Int(1)),
         slot(0),
     )?;
-    let first = with_atom(alloc, MAPS, on)?;
+    let first = on_child(alloc, slot(0))?;
     handed(alloc, first, with_atom(alloc, GIVES, at_1)?)
 }
 
 /// Another rule asks for the term itself one further on.
 fn own_call(alloc: Global) -> Result<(bool, bool), AddError> {
-    let on = call(alloc, MAPS, Who::Child(0), slot(0), slot(1))?;
     let further = call(alloc, MAPS, Who::Own, successor(alloc, 0)?, slot(1))?;
-    let first = with_atom(alloc, MAPS, on)?;
+    let first = on_child(alloc, slot(0))?;
     handed(alloc, first, with_atom(alloc, MAPS, further)?)
+}
+
+#[test]
+fn hands_on_where_inputs_are_handed_on(rt: HostRuntime) {
+    assert_eq!(rt; same_input(rt.alloc()), Ok((true, true)));
+}
+
+#[test]
+fn shifts_no_input_on(rt: HostRuntime) {
+    assert_eq!(rt; shifted_input(rt.alloc()), Ok((false, true)));
 }
 
 #[test]

@@ -1,10 +1,15 @@
 ghost use Rattle.std.specs.Prelude.{◌≡◌, IfOk};
-ghost use Rattle.rule_core.specs.Examples.{the_type, gives, maps, sums};
+ghost use Rattle.rule_tests.specs.Examples.{the_type, gives, maps, two_types, two_constructors, example};
 
 use sig_core::{Bytes, Kind, Param, Params, Relation, SigError, Signature, Sort, TypeId};
 use std::alloc::{AllocError, Global};
 
-fn bytes(alloc: Global, text: &[u8]) -> Result<Bytes, AllocError>
+const TERM: TypeId = TypeId(0);
+
+/// The type of conditions.
+const CONDITION: TypeId = TypeId(1);
+
+pub fn bytes(alloc: Global, text: &[u8]) -> Result<Bytes, AllocError>
     ensures { IfOk result (λ bytes. bytes ≡ text.now) }
 {
     let mut bytes = Bytes::new(alloc);
@@ -25,7 +30,7 @@ fn gives(alloc: Global) -> Result<Relation, AllocError>
     ensures { IfOk result (λ relation. relation ≡ gives) }
 {
     let mut params = Params::new(alloc);
-    params.push(param(alloc, b"t", Kind::Term(TypeId(0)))?)?;
+    params.push(param(alloc, b"t", Kind::Term(TERM))?)?;
     params.push(param(alloc, b"r", Kind::Output(Sort::Int))?)?;
     Ok(Relation {
         name: bytes(alloc, b"U")?,
@@ -37,7 +42,7 @@ fn maps(alloc: Global) -> Result<Relation, AllocError>
     ensures { IfOk result (λ relation. relation ≡ maps) }
 {
     let mut params = Params::new(alloc);
-    params.push(param(alloc, b"t", Kind::Term(TypeId(0)))?)?;
+    params.push(param(alloc, b"t", Kind::Term(TERM))?)?;
     params.push(param(alloc, b"x", Kind::Input(Sort::Int))?)?;
     params.push(param(alloc, b"r", Kind::Output(Sort::Int))?)?;
     Ok(Relation {
@@ -46,12 +51,29 @@ fn maps(alloc: Global) -> Result<Relation, AllocError>
     })
 }
 
-pub fn sums(alloc: Global) -> Result<Signature, SigError>
-    ensures { IfOk result (λ signature. signature ≡ sums) }
+fn two_types(alloc: Global) -> Result<Signature, SigError>
+    ensures { IfOk result (λ signature. signature ≡ two_types) }
 {
     let mut signature = Signature::new(alloc);
-    let owner = signature.add_type(b"E")?;
-    signature.add_constructor(b"$+", owner, &[owner, owner])?;
+    signature.add_type(b"E")?;
+    signature.add_type(b"B")?;
+    Ok(signature)
+}
+
+fn two_constructors(alloc: Global) -> Result<Signature, SigError>
+    ensures { IfOk result (λ signature. signature ≡ two_constructors) }
+{
+    let mut signature = two_types(alloc)?;
+    signature.add_constructor(b"$+", TERM, &[TERM, TERM])?;
+    signature.add_constructor(b"$if", TERM, &[CONDITION, TERM, TERM])?;
+    Ok(signature)
+}
+
+/// A signature with two types, two constructors and two relations.
+pub fn example(alloc: Global) -> Result<Signature, SigError>
+    ensures { IfOk result (λ signature. signature ≡ example) }
+{
+    let mut signature = two_constructors(alloc)?;
     signature.add_relation(gives(alloc)?)?;
     signature.add_relation(maps(alloc)?)?;
     Ok(signature)

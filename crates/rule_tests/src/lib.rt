@@ -1,6 +1,8 @@
-//! Tests of rules: their data flow, and which children they hand on.
+//! Tests of rules: their data flow, which children they hand on, and the book that keeps them.
 #![tactic(auto)]
 
+#[cfg(test)]
+mod book;
 #[cfg(test)]
 mod flow;
 #[cfg(test)]

@@ -1,11 +1,12 @@
 ghost use Rattle.std.specs.Prelude.{◌<◌, ◌≤◌, ◌^◌, length, All, IfOk};
 ghost use Rattle.expr_core.specs.Expressions.{node_count};
-ghost use Rattle.rule_core.specs.Examples.{sums};
 ghost use Rattle.rule_core.specs.Rulebooks.{HasSmallParts, IsRuleOf};
+ghost use Rattle.rule_tests.specs.Examples.{example};
 
+use crate::language::bytes;
 use expr_core::{Expr, Kids, Op};
 use rule_core::{Atom, Atoms, Call, Names, Rule, Var, Vars, Who};
-use sig_core::{Bytes, ConId, RelId, Sort, Value};
+use sig_core::{ConId, RelId, Sort, Value};
 use std::alloc::{AllocError, Global};
 
 /// The relation of a term and its output, in slot 0.
@@ -14,35 +15,38 @@ pub const GIVES: RelId = RelId(0);
 /// The relation of a term, its input in slot 0, and its output in slot 1.
 pub const MAPS: RelId = RelId(1);
 
-pub fn no_variable(alloc: Global) -> Vars
-    ensures { length result ≤ 1 }
-{
-    Vars::new(alloc)
-}
+/// The constructor of two terms.
+pub const PLUS: ConId = ConId(0);
 
-pub fn one_variable(alloc: Global) -> Result<Vars, AllocError>
-    ensures { IfOk result (λ vars. length vars ≤ 1) }
+/// The constructor of a condition and two terms.
+pub const CHOICE: ConId = ConId(1);
+
+/// So many existentials.
+pub fn variables(alloc: Global, count: u8) -> Result<Vars, AllocError>
+    requires { count ≤ 62 }
+    ensures { IfOk result (λ vars. length vars ≤ 62) }
 {
-    let mut name = Bytes::new(alloc);
-    name.append(b"v")?;
     let mut vars = Vars::new(alloc);
-    vars.push(Var {
-        name,
-        sort: Sort::Int,
-    })?;
+    for number in 0..count {
+        vars.push(Var {
+            name: bytes(alloc, &[b'v', b'0' + number])?,
+            sort: Sort::Int,
+        })?;
+    }
     Ok(vars)
 }
 
-pub fn rule(alloc: Global, relation: RelId, more: Vars, atoms: Atoms) -> Rule
+pub fn rule(alloc: Global, relation: RelId, con: ConId, more: Vars, atoms: Atoms) -> Rule
     requires relation { relation.0 < 2 }
-    requires more { length more ≤ 1 }
-    requires few { length atoms ≤ 2 }
+    requires con { con.0 < 2 }
+    requires more { length more ≤ 62 }
+    requires few { length atoms ≤ 63 }
     requires small { All HasSmallParts atoms }
-    ensures { IsRuleOf sums result }
+    ensures { IsRuleOf example result }
 {
     Rule {
         relation,
-        con: ConId(0),
+        con,
         kid_names: Names::new(alloc),
         more,
         atoms,
@@ -73,10 +77,29 @@ pub fn call(
     }))
 }
 
+/// The slot is 1.
+pub fn one(slot: u8) -> Atom
+    ensures { HasSmallParts result }
+{
+    Atom::Fill(slot, Expr::Lit(Value::Int(1)))
+}
+
+/// Each slot from 1 on below the end is 1.
+pub fn ones(alloc: Global, end: u8) -> Result<Atoms, AllocError>
+    requires { end ≤ 64 }
+    ensures { IfOk result (λ atoms. (length atoms ≤ 63) × All HasSmallParts atoms) }
+{
+    let mut atoms = Atoms::new(alloc);
+    for slot in 1..end {
+        atoms.push(one(slot))?;
+    }
+    Ok(atoms)
+}
+
 pub fn pair(alloc: Global, first: Atom, second: Atom) -> Result<Atoms, AllocError>
     requires first { HasSmallParts first }
     requires second { HasSmallParts second }
-    ensures { IfOk result (λ atoms. (length atoms ≤ 2) × All HasSmallParts atoms) }
+    ensures { IfOk result (λ atoms. (length atoms ≤ 63) × All HasSmallParts atoms) }
 {
     let mut atoms = Atoms::new(alloc);
     atoms.push(first)?;
@@ -86,7 +109,7 @@ pub fn pair(alloc: Global, first: Atom, second: Atom) -> Result<Atoms, AllocErro
 
 pub fn alone(alloc: Global, atom: Atom) -> Result<Atoms, AllocError>
     requires { HasSmallParts atom }
-    ensures { IfOk result (λ atoms. (length atoms ≤ 2) × All HasSmallParts atoms) }
+    ensures { IfOk result (λ atoms. (length atoms ≤ 63) × All HasSmallParts atoms) }
 {
     let mut atoms = Atoms::new(alloc);
     atoms.push(atom)?;

@@ -1,12 +1,11 @@
-use Rattle.std.proofs.Common.{◌≡◌, ◌<◌, ℕ, false, [], ◌∷◌, length, refl, arith}
+use Rattle.std.proofs.Common.{◌≡◌, ◌<◌, ℕ, false, [], ◌∷◌, refl, arith}
 use Rattle.std.specs.Prelude.{codes}
-use Rattle.std.proofs.lemmas.List.{length-append}
 use Rattle.std.proofs.lemmas.List.Elements.{All-cons, All-nil}
 use Rattle.sig_core.specs.Names.{is_reserved, AreDistinct}
 use Rattle.sig_core.specs.WellFormed.{IsRelation}
 use Rattle.sig_core.proofs.NameLemmas.{AreDistinct-push}
-use Rattle.rule_core.specs.Examples.{the_type, gives, maps}
-use Rattle.rule_tests.proofs.language.sums.Goals as goal
+use Rattle.rule_tests.specs.Examples.{the_type, gives, maps}
+use Rattle.rule_tests.proofs.language.example.Goals as goal
 
 free_t : is_reserved (codes "t") ≡ false
 unfolding is_reserved
@@ -45,11 +44,7 @@ maps_fits types low = record {
 }
 
 pub add_relation-requires : goal.add_relation-requires
-add_relation-requires c =
-    let low : 0 < length c.add_constructor.new.self.types = rw (c.in_ok-add_constructor.ensures.added.1, c.in_ok-owner.ensures.added.1) (omega (arith, length-append c.new-signature.result.types (codes "E" ∷ []))) in
-    rw c.in_ok-gives.ensures (gives_fits (length c.add_constructor.new.self.types) low)
+add_relation-requires c = rw (c.in_ok-gives.ensures, c.in_ok-signature.ensures) (gives_fits 2 (omega arith))
 
 pub add_relation-requires-2 : goal.add_relation-requires-2
-add_relation-requires-2 c =
-    let low : 0 < length c.add_relation.new.self.types = rw (c.in_ok-add_relation.ensures.added.1, c.in_ok-add_constructor.ensures.added.1, c.in_ok-owner.ensures.added.1) (omega (arith, length-append c.new-signature.result.types (codes "E" ∷ []))) in
-    rw c.in_ok-maps.ensures (maps_fits (length c.add_relation.new.self.types) low)
+add_relation-requires-2 c = rw (c.in_ok-maps.ensures, c.in_ok-add_relation.ensures.added.1, c.in_ok-signature.ensures) (maps_fits 2 (omega arith))

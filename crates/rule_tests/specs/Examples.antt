@@ -1,4 +1,4 @@
--- A small signature: terms of one type, sums of two of them, and two relations.
+-- A small signature: two types, constructors of sums and of choices by a condition, and two relations.
 use Rattle.std.specs.Prelude.{[], ◌∷◌, codes}
 use Rattle.sig_core.specs.declared.ids.TypeId.{TypeId}
 use Rattle.sig_core.specs.declared.value.Sort.TheVariants as sort
@@ -10,8 +10,15 @@ use Rattle.sig_core.specs.Signatures.{Declarations}
 abbrev pub the_type : TypeId
 the_type = record { 0 = 0 }
 
+-- the type of conditions, of which no constructor makes terms
+abbrev pub condition_type : TypeId
+condition_type = record { 0 = 1 }
+
 abbrev pub plus : Constructor
 plus = record { name = codes "$+"; owner = the_type; args = the_type ∷ the_type ∷ [] }
+
+abbrev pub choice : Constructor
+choice = record { name = codes "$if"; owner = the_type; args = condition_type ∷ the_type ∷ the_type ∷ [] }
 
 -- of a term and an output
 abbrev pub gives : Relation
@@ -24,5 +31,11 @@ maps = record {
   params = record { name = codes "t"; kind = Term the_type } ∷ record { name = codes "x"; kind = Input sort.Int } ∷ record { name = codes "r"; kind = Output sort.Int } ∷ [];
 }
 
-abbrev pub sums : Declarations
-sums = record { types = codes "E" ∷ []; constructors = plus ∷ []; relations = gives ∷ maps ∷ [] }
+abbrev pub two_types : Declarations
+two_types = record { types = codes "E" ∷ codes "B" ∷ []; constructors = []; relations = [] }
+
+abbrev pub two_constructors : Declarations
+two_constructors = record { types = codes "E" ∷ codes "B" ∷ []; constructors = plus ∷ choice ∷ []; relations = [] }
+
+abbrev pub example : Declarations
+example = record { types = codes "E" ∷ codes "B" ∷ []; constructors = plus ∷ choice ∷ []; relations = gives ∷ maps ∷ [] }

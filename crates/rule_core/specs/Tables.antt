@@ -1,0 +1,46 @@
+-- The tables of a book: under each relation, and under each relation and constructor, the numbers of its rules.
+use Rattle.std.specs.Prelude.{◌≡◌, ℕ, suc, ◌-◌, Bool, ◌&&◌, nat_eq, if◌then◌else◌, List, [], ◌∷◌, ◌++◌, take, length}
+use Rattle.std.specs.Option.{option_map_or}
+use Rattle.indexmap.specs.IndexMap.{IndexMap, get}
+use Rattle.rule_core.specs.declared.rule.Rule.{Rule}
+
+-- the numbers of the items that pass, where the first item has the number n
+abbrev pub places : {X : Type 0} → (X → Bool) → ℕ → List X → List ℕ
+places p n [] = []
+places p n (x ∷ xs) = if p x then n ∷ places p (suc n) xs else places p (suc n) xs
+
+-- the list under a key, empty where none stands
+abbrev pub list_at : {K S : Type 0} → (K → K → Bool) → IndexMap K (List ℕ) S → K → List ℕ
+list_at eq table key = option_map_or (λ numbers. numbers) (get eq table key) []
+
+-- the number goes last in the list under the key, and the lists under other keys stay
+abbrev pub Gains : {K S : Type 0} → (K → K → Bool) → IndexMap K (List ℕ) S → IndexMap K (List ℕ) S → K → ℕ → Type 0
+Gains {K} eq old new key number = (q : K) → list_at eq new q ≡ list_at eq old q ++ (if eq key q then number ∷ [] else [])
+
+-- the list under each key stays
+abbrev pub Keeps : {K S : Type 0} → (K → K → Bool) → IndexMap K (List ℕ) S → IndexMap K (List ℕ) S → Type 0
+Keeps {K} eq old new = (q : K) → list_at eq new q ≡ list_at eq old q
+
+-- without the last item
+abbrev pub front : {X : Type 0} → List X → List X
+front xs = take (length xs - 1) xs
+
+-- the list under the key loses its last number, and the lists under other keys stay
+abbrev pub Loses : {K S : Type 0} → (K → K → Bool) → IndexMap K (List ℕ) S → IndexMap K (List ℕ) S → K → Type 0
+Loses {K} eq old new key = (q : K) → list_at eq new q ≡ (if eq key q then front (list_at eq old q) else list_at eq old q)
+
+abbrev pub same_pair : ℕ × ℕ → ℕ × ℕ → Bool
+same_pair p q = nat_eq p.0 q.0 && nat_eq p.1 q.1
+
+-- the rule is of the relation and the constructor with these numbers
+abbrev pub is_for : ℕ × ℕ → Rule → Bool
+is_for pair rule = same_pair (rule.relation.0, rule.con.0) pair
+
+-- the rule is of the relation with this number
+abbrev pub is_of : ℕ → Rule → Bool
+is_of relation rule = nat_eq rule.relation.0 relation
+
+-- the tables have the numbers of these rules
+pub record HaveNumbers {S T : Type 0} (pairs : IndexMap (ℕ × ℕ) (List ℕ) S) (relations : IndexMap ℕ (List ℕ) T) (rules : List Rule) : Type 0 where
+  pub of_pairs : (pair : ℕ × ℕ) → list_at same_pair pairs pair ≡ places (is_for pair) 0 rules
+  pub of_relations : (relation : ℕ) → list_at nat_eq relations relation ≡ places (is_of relation) 0 rules
