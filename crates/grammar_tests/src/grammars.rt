@@ -1,14 +1,29 @@
 use crate::productions::{produce, two};
-use crate::sums::{B, E, sums};
+use crate::sums::{B, E, PLUS, sums};
 use grammar_core::{Grammar, NtId};
 use sig_core::{ConId, Signature};
 use std::alloc::{AllocError, Global};
+use std::cmp::Ordering;
 use std::process::Abort;
 use std::test::Fail;
 use term_core::{Bank, Ids, TermId};
 
-/// The nodes of `($ite ($< $x $y) $y $x)`, each with its constructor and the numbers of its children.
-const NODES: [(u16, &[usize]); 4] = [(0, &[]), (1, &[]), (7, &[0, 1]), (3, &[2, 1, 0])];
+/// The distinct nodes of `($ite ($< $x $y) $y $x)`, each with its constructor and the numbers of its children.
+const GREATER: [(u16, &[usize]); 4] = [(0, &[]), (1, &[]), (11, &[0, 1]), (5, &[2, 1, 0])];
+
+/// After the leaves `$x`, `$y`, `$1` and `$t`: `($+ $1 $1)`, `($ite $t $x $x)`, `($+ $x $y)`, `($+ $y $x)` and
+/// `($< $x $y)`.
+const ORDERED: [(u16, &[usize]); 9] = [
+    (0, &[]),
+    (1, &[]),
+    (3, &[]),
+    (6, &[]),
+    (PLUS, &[2, 2]),
+    (5, &[3, 0, 0]),
+    (PLUS, &[0, 1]),
+    (PLUS, &[1, 0]),
+    (11, &[0, 1]),
+];
 
 /// Interns a term, once its children are seen to be live and small.
 fn intern(
@@ -29,17 +44,63 @@ fn intern(
     bank.intern(signature, ConId(con), kids)
 }
 
-/// Interns the nodes in order. Their numbers are their ids.
-fn nodes(rt: &impl Abort, alloc: Global, signature: &Signature) -> Result<Bank, AllocError> {
+/// Interns the nodes in order. Where they are distinct, their numbers are their ids.
+fn interned(
+    rt: &impl Abort,
+    alloc: Global,
+    signature: &Signature,
+    nodes: &[(u16, &[usize])],
+) -> Result<Bank, AllocError> {
     let mut bank = Bank::new(alloc);
-    for (con, numbers) in NODES {
+    for (con, numbers) in nodes {
         let mut kids = Ids::new(alloc);
-        for number in numbers {
+        for number in *numbers {
             kids.push(TermId(*number))?;
         }
-        intern(rt, signature, &mut bank, con, kids.as_slice())?;
+        intern(rt, signature, &mut bank, *con, kids.as_slice())?;
     }
     Ok(bank)
+}
+
+/// The ids of `($+ $x $y)`, interned twice.
+fn sum_twice(
+    rt: &impl Abort,
+    alloc: Global,
+    signature: &Signature,
+) -> Result<(TermId, TermId), AllocError> {
+    let mut bank = Bank::new(alloc);
+    let x = intern(rt, signature, &mut bank, 0, &[])?;
+    let y = intern(rt, signature, &mut bank, 1, &[])?;
+    let first = intern(rt, signature, &mut bank, PLUS, &[x, y])?;
+    let second = intern(rt, signature, &mut bank, PLUS, &[x, y])?;
+    Ok((first, second))
+}
+
+#[test]
+fn a_sum_interned_twice_has_one_id(rt: HostRuntime) -> Result<(), Fail> {
+    let signature = sums(&rt, rt.alloc())?;
+    let (first, second) = sum_twice(&rt, rt.alloc(), &signature)?;
+    assert_eq!(rt; first, TermId(2));
+    assert_eq!(rt; second, first);
+    Ok(())
+}
+
+/// Compares, once the ids are seen to be live.
+fn order(rt: &impl Abort, bank: &Bank, a: usize, b: usize) -> Ordering {
+    assert!(rt; a < bank.len());
+    assert!(rt; b < bank.len());
+    bank.compare(TermId(a), TermId(b))
+}
+
+#[test]
+fn terms_are_ordered_by_size_and_then_by_their_parts(rt: HostRuntime) -> Result<(), Fail> {
+    let signature = sums(&rt, rt.alloc())?;
+    let bank = interned(&rt, rt.alloc(), &signature, &ORDERED)?;
+    for (before, after) in [(4, 5), (8, 5), (6, 7), (7, 8), (0, 4)] {
+        assert!(rt; order(&rt, &bank, before, after) == Ordering::Less);
+        assert!(rt; order(&rt, &bank, after, before) == Ordering::Greater);
+    }
+    Ok(())
 }
 
 fn is_member(rt: &impl Abort, grammar: &Grammar, nt: u16, bank: &Bank, id: usize) -> bool {
@@ -57,21 +118,10 @@ fn whole(rt: &impl Abort, alloc: Global, signature: &Signature) -> Result<Gramma
 fn the_greater_of_two_is_a_number(rt: HostRuntime) -> Result<(), Fail> {
     let signature = sums(&rt, rt.alloc())?;
     let grammar = whole(&rt, rt.alloc(), &signature)?;
-    let bank = nodes(&rt, rt.alloc(), &signature)?;
+    let bank = interned(&rt, rt.alloc(), &signature, &GREATER)?;
     assert!(rt; is_member(&rt, &grammar, 0, &bank, 3));
     assert!(rt; !is_member(&rt, &grammar, 1, &bank, 3));
     assert!(rt; is_member(&rt, &grammar, 1, &bank, 2));
-    Ok(())
-}
-
-#[test]
-fn the_whole_grammar_has_a_nonterminal_for_each_type(rt: HostRuntime) -> Result<(), Fail> {
-    let signature = sums(&rt, rt.alloc())?;
-    let grammar = whole(&rt, rt.alloc(), &signature)?;
-    assert!(rt; 1 < grammar.len());
-    assert!(rt; grammar.name(NtId(1)).as_slice() == b"B".as_slice());
-    assert!(rt; grammar.owner(NtId(1)) == B);
-    assert_eq!(rt; grammar.productions(NtId(1)).len(), 4);
     Ok(())
 }
 
@@ -81,10 +131,22 @@ fn count(rt: &impl Abort, grammar: &Grammar, nt: u16) -> usize {
 }
 
 #[test]
+fn the_whole_grammar_has_a_nonterminal_for_each_type(rt: HostRuntime) -> Result<(), Fail> {
+    let signature = sums(&rt, rt.alloc())?;
+    let grammar = whole(&rt, rt.alloc(), &signature)?;
+    assert!(rt; 1 < grammar.len());
+    assert!(rt; grammar.name(NtId(1)).as_slice() == b"B".as_slice());
+    assert!(rt; grammar.owner(NtId(1)) == B);
+    assert_eq!(rt; count(&rt, &grammar, 0), 6);
+    assert_eq!(rt; count(&rt, &grammar, 1), 6);
+    Ok(())
+}
+
+#[test]
 fn a_nonterminal_without_productions_has_no_term(rt: HostRuntime) -> Result<(), Fail> {
     let signature = sums(&rt, rt.alloc())?;
     let grammar = two(rt.alloc())?;
-    let bank = nodes(&rt, rt.alloc(), &signature)?;
+    let bank = interned(&rt, rt.alloc(), &signature, &GREATER)?;
     assert!(rt; !is_member(&rt, &grammar, 0, &bank, 0));
     Ok(())
 }

@@ -1,7 +1,7 @@
 ghost use Rattle.std.specs.Prelude.{All};
 ghost use Rattle.grammar_core.specs.Grammars.{IsKnown};
 
-use crate::sums::{B, E, NOT, sums};
+use crate::sums::{B, E, NOT, PLUS, sums};
 use grammar_core::{Grammar, GrammarError, NtId};
 use sig_core::{ConId, Signature};
 use std::alloc::Global;
@@ -36,8 +36,8 @@ pub fn produce(
 /// and with a child of another type.
 const WRONG: [(u16, u16, &[NtId]); 3] = [
     (1, 0, &[]),
-    (0, 2, &[NtId(0)]),
-    (0, 2, &[NtId(0), NtId(1)]),
+    (0, PLUS, &[NtId(0)]),
+    (0, PLUS, &[NtId(0), NtId(1)]),
 ];
 
 pub fn two(alloc: Global) -> Result<Grammar, GrammarError> {

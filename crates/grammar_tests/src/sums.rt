@@ -10,18 +10,24 @@ pub const E: TypeId = TypeId(0);
 pub const B: TypeId = TypeId(1);
 
 /// The constructors of sums, choices and comparisons of two numbers, with their types and those of their children.
-const CONSTRUCTORS: [(&[u8], TypeId, &[TypeId]); 8] = [
+const CONSTRUCTORS: [(&[u8], TypeId, &[TypeId]); 12] = [
     (b"$x", E, &[]),
     (b"$y", E, &[]),
+    (b"$0", E, &[]),
+    (b"$1", E, &[]),
     (b"$+", E, &[E, E]),
     (b"$ite", E, &[B, E, E]),
     (b"$t", B, &[]),
+    (b"$f", B, &[]),
     (b"$not", B, &[B]),
     (b"$and", B, &[B, B]),
+    (b"$or", B, &[B, B]),
     (b"$<", B, &[E, E]),
 ];
 
-pub const NOT: u16 = 5;
+pub const PLUS: u16 = 4;
+
+pub const NOT: u16 = 8;
 
 /// Ends the test unless each of the types is declared.
 fn all_declared(rt: &impl Abort, signature: &Signature, types: &[TypeId])
