@@ -1,8 +1,9 @@
 -- What is due for a file, by what reading it, searching and printing gave.
-use Rattle.std.proofs.Common.{◌≡◌, ◌≤◌, ◌<◌, ℕ, List, [], ◌∷◌, Option, Some, None, IfSome, MatchOption, option_map, length, codes, Contains, get_or, zero, suc, refl, sym, ap, ◌∙◌, subst, arith}
+use Rattle.std.proofs.Common.{◌≡◌, ◌≤◌, ◌<◌, ℕ, List, [], ◌∷◌, Option, Some, None, IfSome, MatchOption, option_map, length, codes, Contains, get_or, zero, suc, true, refl, sym, ap, ◌∙◌, subst, arith}
+use Rattle.std.specs.List.{list_any}
+use Rattle.std.proofs.lemmas.Bool.{true≢false}
 use Rattle.sig_core.specs.declared.ids.ConId.{ConId}
 use Rattle.sexpr_core.specs.declared.form.Sexpr.{Sexpr}
-use Rattle.sexpr_core.specs.Lexicon.{IsPlain}
 use Rattle.sexpr_core.specs.Spelling.{Spell}
 use Rattle.sexpr_core.proofs.Once.{spells_once}
 use Rattle.term_core.specs.declared.tree.Tree.{Tree}
@@ -15,7 +16,7 @@ use Rattle.semgus_app.specs.declared.status.Status.TheVariants.{NoTerm}
 use Rattle.semgus_app.specs.Constants.{parts_of, HasConstants}
 use Rattle.semgus_app.specs.FileDues.{IsAnswerDue}
 use Rattle.semgus_app.specs.First.{first_of}
-use Rattle.semgus_app.specs.Statements.{States, StatesNothing}
+use Rattle.semgus_app.specs.Statements.{is_unread, IsPlain, States, StatesNothing}
 
 only_itself : (s t : Tree) → kids_of t ≡ [] → IsSubterm s t → s ≡ t
 only_itself s t e itself = refl
@@ -38,6 +39,10 @@ one_node con = record {
 -- a problem without an answer
 pub none_answer : (parts : Parts) (h n : ℕ) (s : Status) (text : List ℕ) → s ≡ NoTerm → text ≡ codes "none\n" → IsAnswer parts h n None → IsAnswerDue parts h n s text
 none_answer parts h n s text e t a = subst (λ (x : Status). IsAnswerDue parts h n x text) (sym e) (record { none = a; text_is = t })
+
+-- bytes with one of the three aren't plain
+pub not_plain : (bytes : List ℕ) → list_any is_unread bytes ≡ true → IsPlain bytes → ⊥
+not_plain bytes has plain = true≢false (sym has ∙ plain)
 
 -- the bytes state what their forms state
 pub stated_by_forms : (bytes : List ℕ) (forms : List Sexpr) (o : Option Problem) → length bytes ≤ 1048576 → Spell bytes forms → IsPlain bytes

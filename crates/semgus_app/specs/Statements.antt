@@ -1,10 +1,18 @@
 -- What the bytes of a problem file state.
-use Rattle.std.specs.Prelude.{◌≡◌, ◌≤◌, ℕ, List, Some, length}
+use Rattle.std.specs.Prelude.{◌≡◌, ◌≤◌, ◌==◌, ℕ, Bool, List, [], ◌∷◌, Some, IsFalse, length}
+use Rattle.std.specs.List.{list_any}
 use Rattle.sexpr_core.specs.declared.form.Sexpr.{Sexpr}
-use Rattle.sexpr_core.specs.Lexicon.{IsPlain}
 use Rattle.sexpr_core.specs.Spelling.{Spell}
 use Rattle.problem_core.specs.Problems.{Parts}
 use Rattle.semgus_app.specs.First.{first_of}
+
+-- a semicolon, a vertical bar or a double quote, which begin a comment, a quoted symbol or a string
+abbrev pub is_unread : ℕ → Bool
+is_unread byte = list_any (λ sign. sign == byte) (59 ∷ 124 ∷ 34 ∷ [])
+
+-- none of these three
+abbrev pub IsPlain : List ℕ → Type 0
+IsPlain bytes = IsFalse (list_any is_unread bytes)
 
 -- the bytes spell commands that state the problem, without a comment, a string or a quoted symbol
 pub record States (bytes : List ℕ) (parts : Parts) : Type 0 where

@@ -1,9 +1,10 @@
 ghost use Rattle.std.specs.Prelude.{◌≡◌, ◌≤◌, ◌<◌, ◌^◌, ℕ, [], Some, IfOk, MatchOption, length, codes};
+ghost use Rattle.std.specs.List.{list_any};
 ghost use Rattle.term_core.specs.Terms.{node};
 ghost use Rattle.problem_core.specs.Problems.{IsAnswer};
 ghost use Rattle.semgus_app.specs.Constants.{parts_of, HasConstants};
 ghost use Rattle.semgus_app.specs.FileDues.{IsDue, IsAnswerDue, IsAnswerText};
-ghost use Rattle.semgus_app.specs.Statements.{States, StatesNothing};
+ghost use Rattle.semgus_app.specs.Statements.{is_unread, States, StatesNothing};
 
 use crate::derive::derive;
 use crate::first::first;
@@ -41,10 +42,27 @@ fn stated(alloc: Global, bytes: &[u8]) -> Result<Option<Problem>, AllocError>
     if bytes.len() > FILE_LIMIT {
         return Ok(None);
     }
+    if has_unread(bytes) {
+        return Ok(None);
+    }
     match read_whole(alloc, bytes)? {
         Some(forms) => Ok(first(alloc, forms)?),
         None => Ok(None),
     }
+}
+
+/// Whether the byte begins a comment, a quoted symbol or a string.
+fn is_unread(byte: u8) -> bool
+    ensures { result ≡ is_unread byte }
+{
+    matches!(byte, b';' | b'|' | b'"')
+}
+
+/// Whether the bytes hold a semicolon, a vertical bar or a double quote. No file of the first form does.
+fn has_unread(bytes: &[u8]) -> bool
+    ensures { result ≡ list_any is_unread bytes.now }
+{
+    bytes.iter().any(|byte| is_unread(*byte))
 }
 
 /// The line of a file that states no problem.

@@ -1,5 +1,8 @@
 -- Runs of bytes that pass a test, and which classes of bytes are apart.
-use Rattle.std.proofs.Common.{◌≡◌, ℕ, Bool, true, false, List, [], ◌∷◌, ◌++◌, refl, sym, subst, eqb}
+use Rattle.std.proofs.Common.{◌≡◌, ℕ, zero, suc, ◌+◌, ◌<◌, Bool, true, false, List, [], ◌∷◌, ◌++◌, refl, sym, ap, ◌∙◌, subst, eqb, length, drop, get_or, arith}
+use Rattle.std.proofs.Math.Numerals.{add-one}
+use Rattle.std.proofs.Math.Seq.{drop-cons}
+use Rattle.std.proofs.lemmas.List.Folds.{list_all-append}
 use Rattle.std.specs.Prelude.{◌⊎◌}
 use Rattle.std.proofs.Common.{inl, inr}
 use Rattle.std.specs.List.{list_all, list_any}
@@ -36,6 +39,23 @@ list_all-weaker p q w (x ∷ xs) e =
     let here : q x ≡ true = w x both.0 in
     let later : list_all q xs ≡ true = list_all-weaker p q w xs both.1 in
     rw (here, later) refl
+
+pub list_all-more : (test : ℕ → Bool) (xs : List ℕ) (x : ℕ) → list_all test xs ≡ true → test x ≡ true → list_all test (xs ++ x ∷ []) ≡ true
+list_all-more test xs x h k = list_all-append test xs (x ∷ []) ∙ rw (h, k) refl
+
+pub at_byte : (text : List ℕ) (at : ℕ) → at < length text → drop at text ≡ get_or text at 0 ∷ drop (at + 1) text
+at_byte text at h = drop-cons text at 0 h ∙ ap (λ n. get_or text at 0 ∷ drop n text) (sym (add-one at))
+
+-- where the rest begins with a byte, that byte stands there
+pub byte_at : (text : List ℕ) (at x : ℕ) (xs : List ℕ) → drop at text ≡ x ∷ xs → (at < length text) × (get_or text at 0 ≡ x)
+byte_at [] zero x xs e = absurd (cc)
+byte_at [] (suc at) x xs e = absurd (cc)
+byte_at (y ∷ ys) zero x xs e =
+    let heads : y ≡ x = cc in
+    (omega arith, heads)
+byte_at (y ∷ ys) (suc at) x xs e =
+    let later = byte_at ys at x xs e in
+    (omega (arith, later.0), later.1)
 
 -- a longest run of bytes that pass a test is one only
 pub run_once : (test : ℕ → Bool) (a b x y : List ℕ) → list_all test a ≡ true → list_all test b ≡ true → EndsBefore test x → EndsBefore test y → a ++ x ≡ b ++ y → (a ≡ b) × (x ≡ y)

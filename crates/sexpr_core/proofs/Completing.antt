@@ -1,14 +1,15 @@
 -- Each step of the reading keeps what the rest of the text completes.
 use Rattle.std.proofs.Common.{◌≡◌, ◌≢◌, ℕ, suc, ◌+◌, true, false, List, [], ◌∷◌, ◌++◌, refl, sym, ap, ◌∙◌, subst, append_assoc}
-use Rattle.std.specs.Prelude.{length, ◌↔◌}
+use Rattle.std.specs.Prelude.{length, not, ◌↔◌}
+use Rattle.std.specs.List.{list_all}
 use Rattle.std.proofs.lemmas.List.{append-nil}
 use Rattle.sexpr_core.specs.declared.form.Sexpr as sexpr
 use Rattle.sexpr_core.specs.declared.form.Sexpr.{Sexpr}
 use Rattle.sexpr_core.specs.declared.reading.Opened.{Opened}
-use Rattle.sexpr_core.specs.Lexicon.{is_blank}
+use Rattle.sexpr_core.specs.Lexicon.{is_blank, is_line_end, EndsBefore}
 use Rattle.sexpr_core.specs.Reading.{closed, Closes, Completes}
-use Rattle.sexpr_core.specs.Spelling.{IsToken, Spelled, Spell, nothing, blank, token, list}
-use Rattle.sexpr_core.proofs.Steps.{IsStop, at_stop, after_blank, after_token, after_open, no_step}
+use Rattle.sexpr_core.specs.Spelling.{IsToken, Spelled, Spell, nothing, blank, comment, token, list}
+use Rattle.sexpr_core.proofs.Steps.{IsStop, at_stop, after_blank, after_comment, after_token, after_open, no_step}
 
 closes_stop : (st : List Opened) (d : ℕ) (items : List Sexpr) (p : ℕ) (rest : List ℕ) (forms : List Sexpr) → Closes st d items p rest forms → IsStop rest
 closes_stop [] d items p rest forms c = subst IsStop (sym c.0) tt
@@ -21,6 +22,10 @@ module _ (st : List Opened) (d : ℕ) (items : List Sexpr) (p : ℕ) (forms : Li
   pub step_blank : (x : ℕ) (xs : List ℕ) → is_blank x ≡ true → Completes st d items p (x ∷ xs) forms ↔ Completes st d items (p + 1) xs forms
   step_blank x xs is =
       (λ c. (c.0, c.1, c.2, after_blank c.3 (stops c.2 _ c.1 c.4) x xs refl is, c.4), λ c. (c.0, c.1, c.2, blank d p x xs c.0 c.1 c.2 is c.3, c.4))
+
+  pub step_comment : (line rest : List ℕ) → list_all (λ byte. not (is_line_end byte)) line ≡ true → EndsBefore (λ byte. not (is_line_end byte)) rest → Completes st d items p (59 ∷ (line ++ rest)) forms ↔ Completes st d items (p + (1 + length line)) rest forms
+  step_comment line rest is ends =
+      (λ c. (c.0, c.1, c.2, after_comment c.3 (stops c.2 _ c.1 c.4) line rest refl is ends, c.4), λ c. (c.0, c.1, c.2, comment d p line rest c.0 c.1 c.2 is ends c.3, c.4))
 
   pub step_token : (text rest : List ℕ) (f : Sexpr) → IsToken p rest text f → Completes st d items p (text ++ rest) forms ↔ Completes st d (items ++ f ∷ []) (p + length text) rest forms
   step_token text rest f t = (onward, back)

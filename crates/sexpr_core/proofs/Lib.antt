@@ -1,8 +1,10 @@
 pub mod Bytes
 pub mod Tokens
 pub mod Words
+pub mod Quoted
 pub mod Steps
 pub mod Once
 pub mod Completing
 pub mod Readings
 pub mod Small
+pub mod Parts

@@ -1,22 +1,18 @@
 -- Each step of the reading, in the words of its contract.
 use Rattle.std.proofs.Common.{◌≡◌, ◌≢◌, ℕ, suc, ◌+◌, ◌-◌, ◌<◌, ◌≤◌, Bool, true, false, List, [], ◌∷◌, ◌++◌, refl, sym, ap, ◌∙◌, subst, length, take, drop, get_or, arith}
-use Rattle.std.proofs.Math.Numerals.{add-one}
-use Rattle.std.proofs.Math.Seq.{drop-cons}
-use Rattle.std.specs.Prelude.{◌↔◌, Option, Some, None, reverse, MatchOption}
+use Rattle.std.specs.List.{list_all}
+use Rattle.std.specs.Prelude.{◌↔◌, not, Option, Some, None, reverse, MatchOption}
 use Rattle.std.specs.Bool.{MatchBool, then_some}
 use Rattle.std.proofs.lemmas.List.{take-append-drop, length-take-le, length-drop, drop-drop, reverse-append, reverse-reverse, length-append, drop_all}
 use Rattle.sexpr_core.specs.declared.form.Sexpr.{Sexpr}
 use Rattle.sexpr_core.specs.declared.reading.Opened.{Opened}
 use Rattle.sexpr_core.specs.declared.reading.Reading.{Reading}
-use Rattle.sexpr_core.specs.Lexicon.{is_blank, is_unread, IsPlain}
+use Rattle.sexpr_core.specs.Lexicon.{is_blank, is_line_end, EndsBefore}
 use Rattle.sexpr_core.specs.Reading.{closed, Completes, Gives, Steps}
 use Rattle.sexpr_core.specs.Spelling.{HasNoToken, Spell}
-use Rattle.sexpr_core.proofs.Bytes.{apart}
-use Rattle.sexpr_core.proofs.Words.{IsFirstToken, plain_rest, plain_first}
-use Rattle.sexpr_core.proofs.Completing.{step_blank, step_token, step_open, step_close, no_close, no_open, no_token, at_end, no_end, at_start}
-
-pub at_byte : (text : List ℕ) (at : ℕ) → at < length text → drop at text ≡ get_or text at 0 ∷ drop (at + 1) text
-at_byte text at h = drop-cons text at 0 h ∙ ap (λ n. get_or text at 0 ∷ drop n text) (sym (add-one at))
+use Rattle.sexpr_core.proofs.Bytes.{at_byte}
+use Rattle.sexpr_core.proofs.Words.{IsFirstToken}
+use Rattle.sexpr_core.proofs.Completing.{step_blank, step_comment, step_token, step_open, step_close, no_close, no_open, no_token, at_end, no_end, at_start}
 
 -- the same, of equal parts
 moved : (st tt' : List Opened) (d e : ℕ) (items goods : List Sexpr) (p q : ℕ) (bytes codes : List ℕ) (forms : List Sexpr) → st ≡ tt' → d ≡ e → items ≡ goods → p ≡ q → bytes ≡ codes → Completes st d items p bytes forms → Completes tt' e goods q codes forms
@@ -31,6 +27,24 @@ steps_blank r text at h is =
       λ forms. (
         λ g. (step forms).0 (moved _ _ _ _ _ _ _ _ _ _ forms refl refl refl refl (at_byte text at h) g),
         λ g. moved _ _ _ _ _ _ _ _ _ _ forms refl refl refl refl (sym (at_byte text at h)) ((step forms).1 g),
+      ),
+    )
+
+-- a comment ends at a later place
+abbrev pub IsComment : List ℕ → ℕ → ℕ → Type 0
+IsComment text at end = (line : List ℕ) × (end ≡ at + (1 + length line)) × (drop (at + 1) text ≡ line ++ drop end text)
+    × (list_all (λ byte. not (is_line_end byte)) line ≡ true) × EndsBefore (λ byte. not (is_line_end byte)) (drop end text)
+
+pub steps_comment : (r : Reading) (text : List ℕ) (at end : ℕ) → at < length text → get_or text at 0 ≡ 59 → IsComment text at end → Steps r r text at (Some end)
+steps_comment r text at end h is c =
+    let begins : drop at text ≡ 59 ∷ (c.0 ++ drop end text) = at_byte text at h ∙ ap (λ x. x ∷ drop (at + 1) text) is ∙ ap (λ v. 59 ∷ v) c.2 in
+    let whole : length (drop (at + 1) text) ≡ length c.0 + length (drop end text) = ap (λ v. length v) c.2 ∙ length-append c.0 (drop end text) in
+    let step = λ (forms : List Sexpr). step_comment (reverse r.opened) (200 - length r.opened) r.forms at forms c.0 (drop end text) c.3 c.4 in (
+      omega (arith, c.1),
+      omega (arith, c.1, whole, length-drop (at + 1) text),
+      λ forms. (
+        λ g. moved _ _ _ _ _ _ _ _ _ _ forms refl refl refl (sym c.1) refl ((step forms).0 (moved _ _ _ _ _ _ _ _ _ _ forms refl refl refl refl begins g)),
+        λ g. moved _ _ _ _ _ _ _ _ _ _ forms refl refl refl refl (sym begins) ((step forms).1 (moved _ _ _ _ _ _ _ _ _ _ forms refl refl refl c.1 refl g)),
       ),
     )
 
@@ -52,15 +66,10 @@ steps_token old new text at size form h t same grown =
       ),
     )
 
-pub steps_no_token : (old new : Reading) (text : List ℕ) (at : ℕ) → at < length text → IsPlain text → is_blank (get_or text at 0) ≡ false → get_or text at 0 ≢ 40 → get_or text at 0 ≢ 41 → HasNoToken at (drop at text) → Steps old new text at None
-steps_no_token old new text at h plain nb nl ns nt forms g =
-    let x = get_or text at 0 in
+pub steps_no_token : (old new : Reading) (text : List ℕ) (at : ℕ) → at < length text → is_blank (get_or text at 0) ≡ false → get_or text at 0 ≢ 59 → get_or text at 0 ≢ 40 → get_or text at 0 ≢ 41 → HasNoToken at (drop at text) → Steps old new text at None
+steps_no_token old new text at h nb nc nl ns nt forms g =
     let is : drop at text ≡ get_or text at 0 ∷ drop (at + 1) text = at_byte text at h in
-    let read : is_unread (get_or text at 0) ≡ false = plain_first (get_or text at 0) (drop (at + 1) text) (drop at text) (plain_rest at text plain) is in
-    no_token (reverse old.opened) (200 - length old.opened) old.forms at forms (get_or text at 0) (drop (at + 1) text) nb (λ e. not_unread (get_or text at 0) read e) nl ns (λ w rest f e t. nt w rest f (is ∙ e) t) (moved _ _ _ _ _ _ _ _ _ _ forms refl refl refl refl is g)
-  where
-    not_unread : (y : ℕ) → is_unread y ≡ false → y ≡ 59 → ⊥
-    not_unread y n e = apart is_unread 59 y refl n (sym e)
+    no_token (reverse old.opened) (200 - length old.opened) old.forms at forms (get_or text at 0) (drop (at + 1) text) nb nc nl ns (λ w rest f e t. nt w rest f (is ∙ e) t) (moved _ _ _ _ _ _ _ _ _ _ forms refl refl refl refl is g)
 
 abbrev pub Opens : Reading → Reading → ℕ → Bool → Type 0
 Opens old new place is_read = MatchBool is_read ((length old.opened < 200) × (new.opened ≡ old.opened ++ record { place = place; before = old.forms } ∷ []) × (new.forms ≡ [])) (length old.opened ≡ 200)
@@ -130,6 +139,6 @@ gives_none r text at h o forms g = go (reverse r.opened) refl
     go (x ∷ st) e = no_end st (200 - length r.opened) r.forms at forms x (moved _ _ _ _ _ _ _ _ _ _ forms e refl refl refl (drop_all at text h) g)
 
 -- what the whole text spells, where all of it was read
-pub finishes : (r : Reading) (text : List ℕ) (at : ℕ) → length text ≤ at → IsPlain text → ((forms : List Sexpr) → Spell text forms ↔ Gives r at (drop at text) forms) → (found : Option (List Sexpr)) → MatchOption found (r.opened ≢ []) (λ forest. (r.opened ≡ []) × (forest ≡ r.forms)) → MatchOption found ((forms : List Sexpr) → Spell text forms → IsPlain text → ⊥) (λ forest. Spell text forest × IsPlain text)
-finishes r text at h plain same None is = λ forms s p. gives_none r text at h is forms ((same forms).0 s)
-finishes r text at h plain same (Some forest) is = ((same forest).1 ((gives_end r text at h is.0 forest).1 is.1), plain)
+pub finishes : (r : Reading) (text : List ℕ) (at : ℕ) → length text ≤ at → ((forms : List Sexpr) → Spell text forms ↔ Gives r at (drop at text) forms) → (found : Option (List Sexpr)) → MatchOption found (r.opened ≢ []) (λ forest. (r.opened ≡ []) × (forest ≡ r.forms)) → MatchOption found ((forms : List Sexpr) → Spell text forms → ⊥) (λ forest. Spell text forest)
+finishes r text at h same None is = λ forms s. gives_none r text at h is forms ((same forms).0 s)
+finishes r text at h same (Some forest) is = (same forest).1 ((gives_end r text at h is.0 forest).1 is.1)

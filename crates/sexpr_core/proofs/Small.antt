@@ -87,6 +87,6 @@ spelled_small text forms h s = λ k other l.
     let levels = each_below nesting forms k other l in
     (omega (arith, counts.0, nodes_bounded s.1), omega (arith, levels.1, nesting_bounded s.1))
 
-pub found_small : (text : List ℕ) (P : Type 0) (Q : List Sexpr → Type 0) → length text < 2 ^ 32 → (found : Option (List Sexpr)) → MatchOption found P (λ forest. Spell text forest × Q forest) → IfSome found (All IsSmall)
-found_small text P Q h None m = tt
-found_small text P Q h (Some forest) m = spelled_small text forest h m.0
+pub found_small : (text : List ℕ) (P : Type 0) → length text < 2 ^ 32 → (found : Option (List Sexpr)) → MatchOption found P (λ forest. Spell text forest) → IfSome found (All IsSmall)
+found_small text P h None m = tt
+found_small text P h (Some forest) m = spelled_small text forest h m

@@ -5,7 +5,7 @@ use Rattle.std.specs.List.{list_all}
 use Rattle.std.proofs.lemmas.Bool.{and_parts, or_left, eqb-true, eqb-false, cases_Bool}
 use Rattle.sexpr_core.specs.declared.form.Sexpr as sexpr
 use Rattle.sexpr_core.specs.declared.form.Sexpr.{Sexpr}
-use Rattle.sexpr_core.specs.Lexicon.{is_digit, is_symbol_byte, is_quoted_byte, doubled, EndsBefore, IsNumeral, IsSimpleSymbol}
+use Rattle.sexpr_core.specs.Lexicon.{is_digit, is_symbol_byte, is_allowed, is_quoted_byte, doubled, EndsBefore, IsNumeral, IsSimpleSymbol}
 use Rattle.sexpr_core.specs.Spelling.{atom, IsToken, numeral, simple_symbol, quoted_symbol, string, keyword}
 use Rattle.sexpr_core.proofs.Bytes.{digit_is_symbol_byte, list_all-weaker, run_once}
 
@@ -30,7 +30,7 @@ abbrev pub Shape : Kind → ℕ → List ℕ → List ℕ → Sexpr → Type 0
 Shape Number place rest text form = IsNumeral text × EndsBefore is_symbol_byte rest × (form ≡ sexpr.Numeral (atom place text))
 Shape Simple place rest text form = IsSimpleSymbol text × EndsBefore is_symbol_byte rest × (form ≡ sexpr.Symbol (atom place text))
 Shape Quoted place rest text form = (name : List ℕ) × (text ≡ 124 ∷ (name ++ 124 ∷ [])) × (list_all is_quoted_byte name ≡ true) × (form ≡ sexpr.Symbol (atom place name))
-Shape Literal place rest text form = (contents : List ℕ) × (text ≡ 34 ∷ (doubled contents ++ 34 ∷ [])) × EndsBefore (λ byte. byte == 34) rest × (form ≡ sexpr.Text (atom place contents))
+Shape Literal place rest text form = (contents : List ℕ) × (text ≡ 34 ∷ (doubled contents ++ 34 ∷ [])) × EndsBefore (λ byte. byte == 34) rest × (form ≡ sexpr.Text (atom place contents)) × (list_all is_allowed contents ≡ true)
 Shape Key place rest text form = (name : List ℕ) × (text ≡ 58 ∷ name) × IsSimpleSymbol name × EndsBefore is_symbol_byte rest × (form ≡ sexpr.Keyword (atom place name))
 
 pub record Begins (place : ℕ) (rest text : List ℕ) (form : Sexpr) : Type 0 where
@@ -72,7 +72,7 @@ pub begins : {place : ℕ} {rest text : List ℕ} {form : Sexpr} → IsToken pla
 begins {place} {rest} (numeral text h e) = begins_numeral place rest text h e
 begins {place} {rest} (simple_symbol text h e) = begins_symbol place rest text h e
 begins {place} {rest} (quoted_symbol name h) = record { first = 124; others = name ++ 124 ∷ []; is = refl; starts = refl; shape = (name, refl, h, refl) }
-begins {place} {rest} (string contents h e) = record { first = 34; others = doubled contents ++ 34 ∷ []; is = refl; starts = refl; shape = (contents, refl, e, refl) }
+begins {place} {rest} (string contents h e) = record { first = 34; others = doubled contents ++ 34 ∷ []; is = refl; starts = refl; shape = (contents, refl, e, refl, h) }
 begins {place} {rest} (keyword name h e) = record { first = 58; others = name; is = refl; starts = refl; shape = (name, refl, h, e, refl) }
 
 pub symbol_is_word : (a : List ℕ) → IsSimpleSymbol a → list_all is_symbol_byte a ≡ true
@@ -98,10 +98,10 @@ inside_once a b x y p q e =
     let tails : x ≡ y = cc (found.1) in
     (found.0, tails)
 
-abbrev Doubling : ℕ → List ℕ → Type 0
+abbrev pub Doubling : ℕ → List ℕ → Type 0
 Doubling c cs = ((c ≡ 34) × (doubled (c ∷ cs) ≡ 34 ∷ 34 ∷ doubled cs)) ⊎ ((c ≡ 34 → ⊥) × (doubled (c ∷ cs) ≡ c ∷ doubled cs))
 
-doubling : (c : ℕ) (cs : List ℕ) → Doubling c cs
+pub doubling : (c : ℕ) (cs : List ℕ) → Doubling c cs
 doubling c cs = go (cases_Bool (eqb c 34))
   where
     go : (eqb c 34 ≡ true) ⊎ (eqb c 34 ≡ false) → Doubling c cs
@@ -114,34 +114,34 @@ no_quote_first (c ∷ cs) ys s e =
     let is : c ≡ 34 = cc in
     eqb-false c 34 s is
 
-no_end : (d : ℕ) (ds x y : List ℕ) → EndsBefore (λ byte. byte == 34) x → Doubling d ds → 34 ∷ x ≡ doubled (d ∷ ds) ++ 34 ∷ y → ⊥
+pub no_end : (d : ℕ) (ds x y : List ℕ) → EndsBefore (λ byte. byte == 34) x → Doubling d ds → 34 ∷ x ≡ doubled (d ∷ ds) ++ y → ⊥
 no_end d ds x y s (inl w) e =
-    let all : 34 ∷ x ≡ 34 ∷ 34 ∷ (doubled ds ++ 34 ∷ y) = e ∙ ap (λ v. v ++ 34 ∷ y) w.1 in
-    let tail : x ≡ 34 ∷ (doubled ds ++ 34 ∷ y) = cc in
+    let all : 34 ∷ x ≡ 34 ∷ 34 ∷ (doubled ds ++ y) = e ∙ ap (λ v. v ++ y) w.1 in
+    let tail : x ≡ 34 ∷ (doubled ds ++ y) = cc in
     no_quote_first x _ s tail
 no_end d ds x y s (inr w) e =
-    let all : 34 ∷ x ≡ d ∷ (doubled ds ++ 34 ∷ y) = e ∙ ap (λ v. v ++ 34 ∷ y) w.1 in
+    let all : 34 ∷ x ≡ d ∷ (doubled ds ++ y) = e ∙ ap (λ v. v ++ y) w.1 in
     let is : d ≡ 34 = cc in
     w.0 is
 
-one_more : (c : ℕ) (cs : List ℕ) (d : ℕ) (ds x y : List ℕ) → Doubling c cs → Doubling d ds → doubled (c ∷ cs) ++ 34 ∷ x ≡ doubled (d ∷ ds) ++ 34 ∷ y → (c ≡ d) × (doubled cs ++ 34 ∷ x ≡ doubled ds ++ 34 ∷ y)
+pub one_more : (c : ℕ) (cs : List ℕ) (d : ℕ) (ds x y : List ℕ) → Doubling c cs → Doubling d ds → doubled (c ∷ cs) ++ x ≡ doubled (d ∷ ds) ++ y → (c ≡ d) × (doubled cs ++ x ≡ doubled ds ++ y)
 one_more c cs d ds x y (inl v) (inl w) e =
-    let all : 34 ∷ 34 ∷ (doubled cs ++ 34 ∷ x) ≡ 34 ∷ 34 ∷ (doubled ds ++ 34 ∷ y) = sym (ap (λ u. u ++ 34 ∷ x) v.1) ∙ e ∙ ap (λ u. u ++ 34 ∷ y) w.1 in
+    let all : 34 ∷ 34 ∷ (doubled cs ++ x) ≡ 34 ∷ 34 ∷ (doubled ds ++ y) = sym (ap (λ u. u ++ x) v.1) ∙ e ∙ ap (λ u. u ++ y) w.1 in
     let heads : c ≡ d = cc (v.0, w.0) in
-    let tails : doubled cs ++ 34 ∷ x ≡ doubled ds ++ 34 ∷ y = cc in
+    let tails : doubled cs ++ x ≡ doubled ds ++ y = cc in
     (heads, tails)
 one_more c cs d ds x y (inl v) (inr w) e =
-    let all : 34 ∷ 34 ∷ (doubled cs ++ 34 ∷ x) ≡ d ∷ (doubled ds ++ 34 ∷ y) = sym (ap (λ u. u ++ 34 ∷ x) v.1) ∙ e ∙ ap (λ u. u ++ 34 ∷ y) w.1 in
+    let all : 34 ∷ 34 ∷ (doubled cs ++ x) ≡ d ∷ (doubled ds ++ y) = sym (ap (λ u. u ++ x) v.1) ∙ e ∙ ap (λ u. u ++ y) w.1 in
     let is : d ≡ 34 = cc in
     absurd (w.0 is)
 one_more c cs d ds x y (inr v) (inl w) e =
-    let all : c ∷ (doubled cs ++ 34 ∷ x) ≡ 34 ∷ 34 ∷ (doubled ds ++ 34 ∷ y) = sym (ap (λ u. u ++ 34 ∷ x) v.1) ∙ e ∙ ap (λ u. u ++ 34 ∷ y) w.1 in
+    let all : c ∷ (doubled cs ++ x) ≡ 34 ∷ 34 ∷ (doubled ds ++ y) = sym (ap (λ u. u ++ x) v.1) ∙ e ∙ ap (λ u. u ++ y) w.1 in
     let is : c ≡ 34 = cc in
     absurd (v.0 is)
 one_more c cs d ds x y (inr v) (inr w) e =
-    let all : c ∷ (doubled cs ++ 34 ∷ x) ≡ d ∷ (doubled ds ++ 34 ∷ y) = sym (ap (λ u. u ++ 34 ∷ x) v.1) ∙ e ∙ ap (λ u. u ++ 34 ∷ y) w.1 in
+    let all : c ∷ (doubled cs ++ x) ≡ d ∷ (doubled ds ++ y) = sym (ap (λ u. u ++ x) v.1) ∙ e ∙ ap (λ u. u ++ y) w.1 in
     let heads : c ≡ d = cc in
-    let tails : doubled cs ++ 34 ∷ x ≡ doubled ds ++ 34 ∷ y = cc in
+    let tails : doubled cs ++ x ≡ doubled ds ++ y = cc in
     (heads, tails)
 
 -- doubled contents end at the first quote that isn't doubled
@@ -149,10 +149,10 @@ contents_once : (a b x y : List ℕ) → EndsBefore (λ byte. byte == 34) x → 
 contents_once [] [] x y s t e =
     let tails : x ≡ y = cc in
     (refl, tails)
-contents_once [] (d ∷ ds) x y s t e = absurd (no_end d ds x y s (doubling d ds) e)
-contents_once (c ∷ cs) [] x y s t e = absurd (no_end c cs y x t (doubling c cs) (sym e))
+contents_once [] (d ∷ ds) x y s t e = absurd (no_end d ds x (34 ∷ y) s (doubling d ds) e)
+contents_once (c ∷ cs) [] x y s t e = absurd (no_end c cs y (34 ∷ x) t (doubling c cs) (sym e))
 contents_once (c ∷ cs) (d ∷ ds) x y s t e =
-    let step = one_more c cs d ds x y (doubling c cs) (doubling d ds) e in
+    let step = one_more c cs d ds (34 ∷ x) (34 ∷ y) (doubling c cs) (doubling d ds) e in
     let found = contents_once cs ds x y s t step.1 in
     let heads : c ≡ d = step.0 in
     let tails : cs ≡ ds = found.0 in

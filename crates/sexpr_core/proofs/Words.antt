@@ -1,32 +1,18 @@
 -- The token that begins with the longest run of bytes of simple symbols.
-use Rattle.std.proofs.Common.{◌≡◌, ℕ, suc, ◌+◌, ◌<◌, ◌≤◌, true, false, List, [], ◌∷◌, ◌++◌, refl, sym, ap, ◌∙◌, subst, length, take, drop, arith}
+use Rattle.std.proofs.Common.{◌≡◌, ℕ, suc, ◌+◌, ◌<◌, ◌≤◌, true, List, [], ◌∷◌, ◌++◌, refl, sym, ap, ◌∙◌, subst, length, take, drop, arith}
 use Rattle.std.proofs.Math.Numerals.{one-add}
 use Rattle.std.specs.Prelude.{◌==◌}
-use Rattle.std.specs.List.{list_all, list_any}
-use Rattle.std.proofs.lemmas.List.{take_at, take-append-drop}
+use Rattle.std.specs.List.{list_all}
+use Rattle.std.proofs.lemmas.List.{take_at, drop_at}
 use Rattle.std.proofs.lemmas.List.Prefix.{front_fits}
-use Rattle.std.proofs.lemmas.List.Folds.{list_any-append}
-use Rattle.std.proofs.lemmas.Bool.{or_parts, true≢false}
+use Rattle.std.proofs.lemmas.Bool.{true≢false}
 use Rattle.sexpr_core.specs.declared.form.Sexpr as sexpr
 use Rattle.sexpr_core.specs.declared.form.Sexpr.{Sexpr}
 use Rattle.sexpr_core.specs.declared.form.Atom.{Atom}
-use Rattle.sexpr_core.specs.Lexicon.{is_symbol_byte, is_unread, EndsBefore, IsNumeral, IsSimpleSymbol, IsPlain, doubled}
+use Rattle.sexpr_core.specs.Lexicon.{is_symbol_byte, EndsBefore, IsNumeral, IsSimpleSymbol}
 use Rattle.sexpr_core.specs.Spelling.{IsToken, HasNoToken, numeral, simple_symbol, quoted_symbol, string, keyword}
 use Rattle.sexpr_core.proofs.Bytes.{run_once}
 use Rattle.sexpr_core.proofs.Tokens.{Key, Shape, kind_of, begins, numeral_is_word, symbol_is_word}
-
-pub plain_rest : (n : ℕ) (bytes : List ℕ) → IsPlain bytes → IsPlain (drop n bytes)
-plain_rest n bytes h =
-    let whole : list_any is_unread (take n bytes ++ drop n bytes) ≡ false = rw take-append-drop h in
-    (or_parts (list_any is_unread (take n bytes)) (list_any is_unread (drop n bytes)) (sym (list_any-append is_unread (take n bytes) (drop n bytes)) ∙ whole)).1
-
-pub plain_first : (x : ℕ) (xs bytes : List ℕ) → IsPlain bytes → bytes ≡ x ∷ xs → is_unread x ≡ false
-plain_first x xs bytes h e = (or_parts (is_unread x) (list_any is_unread xs) (subst IsPlain e h)).0
-
-not_plain : (x : ℕ) (xs bytes : List ℕ) → is_unread x ≡ true → IsPlain bytes → bytes ≡ x ∷ xs → ⊥
-not_plain x xs bytes is h e =
-    let isnt : is_unread x ≡ false = plain_first x xs bytes h e in
-    cc
 
 symbol_not_empty : (word : List ℕ) → IsSimpleSymbol word → 0 < length word
 symbol_not_empty [] h = absurd h
@@ -38,6 +24,14 @@ numeral_not_empty (x ∷ xs) h = omega arith
 
 abbrev pub IsFirstToken : ℕ → List ℕ → ℕ → Sexpr → Type 0
 IsFirstToken place bytes size form = (0 < size) × (size ≤ length bytes) × IsToken place (drop size bytes) (take size bytes) form
+
+-- the bytes begin with a token, and the rest follows
+pub first_is : (place : ℕ) (bytes text rest : List ℕ) (size : ℕ) (form : Sexpr) → bytes ≡ text ++ rest → size ≡ length text → 0 < size → IsToken place rest text form → IsFirstToken place bytes size form
+first_is place bytes text rest size form e s h t =
+    let fits = front_fits bytes text rest e in
+    let taken : take size bytes ≡ text = ap (λ v. take size v) e ∙ take_at text rest size (sym s) in
+    let left : drop size bytes ≡ rest = ap (λ v. drop size v) e ∙ drop_at text rest size (sym s) in
+    (h, omega arith, subst (λ w. IsToken place (drop size bytes) w form) (sym taken) (subst (λ w. IsToken place w text form) (sym left) t))
 
 module _ (place : ℕ) (bytes word : List ℕ) (front : bytes ≡ word ++ drop (length word) bytes) (run : list_all is_symbol_byte word ≡ true) (longest : EndsBefore is_symbol_byte (drop (length word) bytes)) where
   taken : take (length word) bytes ≡ word
@@ -51,8 +45,8 @@ module _ (place : ℕ) (bytes word : List ℕ) (front : bytes ≡ word ++ drop (
   numeral_is_first made is h =
       (numeral_not_empty word h, front_fits bytes word _ front, subst (λ w. IsToken place (drop (length word) bytes) w (sexpr.Numeral made)) (sym taken) (subst (λ a. IsToken place (drop (length word) bytes) word (sexpr.Numeral a)) (sym is) (numeral word h longest)))
 
-  pub no_word : (IsSimpleSymbol word → ⊥) → (IsNumeral word → ⊥) → IsPlain bytes → EndsBefore (λ byte. byte == 58) bytes → HasNoToken place bytes
-  no_word no_symbol no_numeral plain no_colon text rest form e t = go t e
+  pub no_word : (IsSimpleSymbol word → ⊥) → (IsNumeral word → ⊥) → EndsBefore (λ byte. byte == 58) bytes → EndsBefore (λ byte. byte == 124) bytes → EndsBefore (λ byte. byte == 34) bytes → HasNoToken place bytes
+  no_word no_symbol no_numeral no_colon no_bar no_quote text rest form e t = go t e
     where
       go : {w : List ℕ} {f : Sexpr} → IsToken place rest w f → bytes ≡ w ++ rest → ⊥
       go (numeral w h ends) q =
@@ -61,8 +55,8 @@ module _ (place : ℕ) (bytes word : List ℕ) (front : bytes ≡ word ++ drop (
       go (simple_symbol w h ends) q =
           let same = run_once is_symbol_byte w word rest (drop (length word) bytes) (symbol_is_word w h) run ends longest (sym q ∙ front) in
           no_symbol (subst IsSimpleSymbol same.0 h)
-      go (quoted_symbol name h) q = not_plain 124 ((name ++ 124 ∷ []) ++ rest) bytes refl plain q
-      go (string contents h ends) q = not_plain 34 ((doubled contents ++ 34 ∷ []) ++ rest) bytes refl plain q
+      go (quoted_symbol name h) q = absurd (true≢false (subst (EndsBefore (λ byte. byte == 124)) q no_bar))
+      go (string contents h ends) q = absurd (true≢false (subst (EndsBefore (λ byte. byte == 34)) q no_quote))
       go (keyword name h ends) q = absurd (true≢false (subst (EndsBefore (λ byte. byte == 58)) q no_colon))
 
   pub keyword_is_first : (made : Atom) → made ≡ record { place = place; bytes = word } → IsSimpleSymbol word → IsFirstToken place (58 ∷ bytes) (1 + length word) (sexpr.Keyword made)

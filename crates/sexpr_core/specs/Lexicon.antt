@@ -1,5 +1,5 @@
 -- The bytes and the tokens of the lexicon of SMT-LIB 2.6, as this project reads it. A byte is its number.
-use Rattle.std.specs.Prelude.{◌≡◌, ℕ, List, [], ◌∷◌, Bool, ◌||◌, ◌&&◌, not, nat_le, ◌==◌, if◌then◌else◌, IsTrue, IsFalse, codes}
+use Rattle.std.specs.Prelude.{◌≡◌, ◌≢◌, ℕ, List, [], ◌∷◌, Bool, ◌||◌, ◌&&◌, not, nat_le, ◌==◌, if◌then◌else◌, IsTrue, IsFalse, codes}
 use Rattle.std.specs.List.{list_all, list_any}
 
 -- a byte from the first of a range to its last
@@ -52,10 +52,8 @@ abbrev pub doubled : List ℕ → List ℕ
 doubled [] = []
 doubled (byte ∷ bytes) = if byte == 34 then 34 ∷ 34 ∷ doubled bytes else byte ∷ doubled bytes
 
--- a semicolon, a vertical bar or a double quote, which begin a comment, a quoted symbol or a string
-abbrev pub is_unread : ℕ → Bool
-is_unread byte = list_any (λ sign. sign == byte) (59 ∷ 124 ∷ 34 ∷ [])
-
--- none of these three
-abbrev pub IsPlain : List ℕ → Type 0
-IsPlain bytes = IsFalse (list_any is_unread bytes)
+-- The contents of a string don't go on: the bytes are none, or begin with a quote that isn't doubled, or with a byte
+-- that may not stand in a string.
+abbrev pub EndsContents : List ℕ → Type 0
+EndsContents [] = Unit {0}
+EndsContents (byte ∷ bytes) = (byte ≡ 34 → EndsBefore (λ next. next == 34) bytes) × (byte ≢ 34 → IsFalse (is_allowed byte))

@@ -1,6 +1,6 @@
-ghost use Rattle.std.specs.Prelude.{◌≡◌, ◌++◌, ◌≤◌, ◌↔◌, IsTrue, length, drop};
-ghost use Rattle.std.specs.List.{list_all, list_any};
-ghost use Rattle.sexpr_core.specs.Lexicon.{is_blank, is_digit, is_unread, is_symbol_byte, EndsBefore, IsNumeral, IsSimpleSymbol};
+ghost use Rattle.std.specs.Prelude.{◌≡◌, ◌++◌, ◌≤◌, ◌↔◌, IsTrue, length, drop, not};
+ghost use Rattle.std.specs.List.{list_all};
+ghost use Rattle.sexpr_core.specs.Lexicon.{is_blank, is_line_end, is_digit, is_symbol_byte, is_allowed, is_quoted_byte, EndsBefore, IsNumeral, IsSimpleSymbol};
 
 /// The bytes of a simple symbol that are no letter and no digit.
 const MARKS: &[u8] = b"~!@$%^&*_-+=<>.?/";
@@ -57,16 +57,51 @@ fn are_digits(bytes: &[u8]) -> bool
     bytes.iter().all(|byte| byte.is_ascii_digit())
 }
 
-/// Whether the byte begins a comment, a quoted symbol or a string.
-fn is_unread(byte: u8) -> bool
-    ensures { result ≡ is_unread byte }
+/// Whether the byte ends a comment.
+fn is_line_end(byte: u8) -> bool
+    ensures { result ≡ is_line_end byte }
 {
-    matches!(byte, b';' | b'|' | b'"')
+    matches!(byte, b'\n' | b'\r')
 }
 
-/// Whether the bytes hold a semicolon, a vertical bar or a double quote.
-pub(crate) fn has_unread(text: &[u8]) -> bool
-    ensures { result ≡ list_any is_unread text.now }
+/// The bytes before the first line end.
+pub(crate) fn first_line(bytes: &[u8]) -> &[u8]
+    ensures line { IsTrue (list_all (λ byte. not (is_line_end byte)) result.now) }
+    ensures front { bytes.now ≡ result.now ++ drop (length result.now) bytes.now }
+    ensures longest { EndsBefore (λ byte. not (is_line_end byte)) (drop (length result.now) bytes.now) }
 {
-    text.iter().any(|byte| is_unread(*byte))
+    for (end, byte) in bytes.iter().enumerate() {
+        if is_line_end(*byte) {
+            return &bytes[..end];
+        }
+    }
+    bytes
+}
+
+/// Whether the byte may stand in a quoted symbol or a string.
+pub(crate) fn is_allowed(byte: u8) -> bool
+    ensures { result ≡ is_allowed byte }
+{
+    is_blank(byte) || matches!(byte, 32..=126 | 128..=255)
+}
+
+/// Whether the byte may stand in a quoted symbol.
+fn is_quoted_byte(byte: u8) -> bool
+    ensures { result ≡ is_quoted_byte byte }
+{
+    is_allowed(byte) && byte != b'|' && byte != b'\\'
+}
+
+/// The longest run of bytes of quoted symbols that the bytes begin with.
+pub(crate) fn first_quoted(bytes: &[u8]) -> &[u8]
+    ensures name { IsTrue (list_all is_quoted_byte result.now) }
+    ensures front { bytes.now ≡ result.now ++ drop (length result.now) bytes.now }
+    ensures longest { EndsBefore is_quoted_byte (drop (length result.now) bytes.now) }
+{
+    for (end, byte) in bytes.iter().enumerate() {
+        if !is_quoted_byte(*byte) {
+            return &bytes[..end];
+        }
+    }
+    bytes
 }

@@ -1,13 +1,14 @@
-ghost use Rattle.std.specs.Prelude.{◌≡◌, ◌≢◌, ℕ, slice_index, IsFalse, ◌≤◌, ◌<◌, ◌^◌, [], ◌∷◌, ◌++◌, List, length, IfOk, IfSome, MatchOption, All};
+ghost use Rattle.std.specs.Prelude.{◌≡◌, ◌≢◌, ℕ, slice_index, IsTrue, IsFalse, ◌+◌, ◌≤◌, ◌<◌, ◌^◌, [], ◌∷◌, ◌++◌, List, length, drop, not, IfOk, IfSome, MatchOption, All};
 ghost use Rattle.std.specs.Bool.{MatchBool};
+ghost use Rattle.std.specs.List.{list_all};
 ghost use Rattle.sexpr_core.specs.declared.form.Sexpr.{Sexpr};
-ghost use Rattle.sexpr_core.specs.Lexicon.{is_blank, IsPlain};
+ghost use Rattle.sexpr_core.specs.Lexicon.{is_blank, is_line_end, EndsBefore};
 ghost use Rattle.sexpr_core.specs.Sizes.{IsSmall};
 ghost use Rattle.sexpr_core.specs.Spelling.{Spell};
 
 use crate::forest::Forest;
 use crate::form::{Forms, Nest, Sexpr};
-use crate::lexicon::{has_unread, is_blank};
+use crate::lexicon::{first_line, is_blank};
 use crate::token::first_token;
 use items::Items;
 use std::alloc::{AllocError, Global};
@@ -78,8 +79,8 @@ impl Reading {
     fn token(&mut self, alloc: Global, text: &[u8], at: usize) -> Result<Option<usize>, AllocError>
         requires within { at < length text.now }
         requires size { length text.now < 2 ^ 32 }
-        requires plain { IsPlain text.now }
         requires not_blank { IsFalse (is_blank (slice_index text.now at)) }
+        requires not_comment { slice_index text.now at ≢ 59 }
         requires not_open { slice_index text.now at ≢ 40 }
         requires not_close { slice_index text.now at ≢ 41 }
         ensures { IfOk result (Steps self.old self.new text.now at) }
@@ -91,17 +92,18 @@ impl Reading {
         Ok(Some(at + token.size))
     }
 
-    /// Reads the blank, the parenthesis or the token at `at`, and answers where it ends. None where no spelling
-    /// goes on so.
+    /// Reads the blank, the comment, the parenthesis or the token at `at`, and answers where it ends. None where no
+    /// spelling goes on so.
     fn step(&mut self, alloc: Global, text: &[u8], at: usize) -> Result<Option<usize>, AllocError>
         requires within { at < length text.now }
         requires size { length text.now < 2 ^ 32 }
-        requires plain { IsPlain text.now }
         ensures { IfOk result (Steps self.old self.new text.now at) }
     {
         let byte = text[at];
         if is_blank(byte) {
             Ok(Some(at + 1))
+        } else if byte == b';' {
+            Ok(Some(comment_end(text, at)))
         } else if byte == b'(' {
             Ok(self.open(alloc, at as u32)?.then_some(at + 1))
         } else if byte == b')' {
@@ -123,19 +125,25 @@ impl Reading {
     }
 }
 
-/// The forms of a text, after the lexicon of SMT-LIB 2.6 (lists nest at most 200 deep). None where the text isn't a
-/// spelling, or holds a semicolon, a vertical bar or a double quote: comments, quoted symbols and strings aren't
-/// read yet.
+/// Where the comment that begins at `at` ends.
+fn comment_end(text: &[u8], at: usize) -> usize
+    requires { at < length text.now }
+    ensures { (line : List ℕ) × (result ≡ at + (1 + length line)) × (drop (at + 1) text.now ≡ line ++ drop result text.now)
+        × IsTrue (list_all (λ byte. not (is_line_end byte)) line) × EndsBefore (λ byte. not (is_line_end byte)) (drop result text.now) }
+{
+    let begins = at + 1;
+    begins + first_line(&text[begins..]).len()
+}
+
+/// The forms of a text, after the lexicon of SMT-LIB 2.6 (lists nest at most 200 deep). None exactly where the text
+/// isn't a spelling.
 pub fn read_whole(alloc: Global, text: &[u8]) -> Result<Option<Forest>, AllocError>
     requires { length text.now < 2 ^ 32 }
     ensures forms { IfOk result (λ found. MatchOption found
-        ((forms : List Sexpr) → Spell text.now forms → ¬ IsPlain text.now)
-        (λ forest. Spell text.now forest × IsPlain text.now)) }
+        ((forms : List Sexpr) → Spell text.now forms → ⊥)
+        (λ forest. Spell text.now forest)) }
     ensures small { IfOk result (λ found. IfSome found (All IsSmall)) }
 {
-    if has_unread(text) {
-        return Ok(None);
-    }
     let mut reading = Reading::new(alloc);
     let mut at = 0;
     while at < text.len() {

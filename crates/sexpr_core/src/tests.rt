@@ -1,4 +1,4 @@
-use crate::{Atom, Forest, Sexpr, read_whole};
+use crate::{Atom, Forest, Sexpr, print, read_whole};
 use sig_core::Bytes;
 use std::alloc::{AllocError, Global};
 use std::fmt::Write;
@@ -74,10 +74,33 @@ fn reads_spellings(rt: HostRuntime) -> Result<(), Fail> {
 }
 
 #[test]
+fn reads_comments_and_quotes(rt: HostRuntime) -> Result<(), Fail> {
+    let cases = [
+        ("a;b", "s0=a "),
+        ("(a ;)\nb)", "(0 s1=a s6=b ) "),
+        (";\u{0}\u{7f}|\"\r0", "n6=0 "),
+        ("|a b|", "s0=a b "),
+        ("||", "s0= "),
+        ("|$x| $x", "s0=$x s5=$x "),
+        ("|;\"|a", "s0=;\" s4=a "),
+        ("\"a\"\"b\"", "t0=a\"b "),
+        ("\"\"\"\"", "t0=\" "),
+        ("\"a\"x", "t0=a s3=x "),
+        ("\"\\|;é\"", "t0=\\|;Ã© "),
+    ];
+    for (text, want) in cases {
+        let read = reading(&rt, rt.alloc(), text.as_bytes())?;
+        assert_eq!(rt; read.as_str(), want, "at {text}");
+    }
+    Ok(())
+}
+
+#[test]
 fn refuses_what_is_no_spelling(rt: HostRuntime) -> Result<(), Fail> {
     let cases = [
         ")", "a)", "(", "(()", "00", "01", "12a", "0a", "1+", "(1-)", ":", ":1", ": a", "a :",
-        "\u{1}", "a\u{7f}", "é", "[", "{", "'", ",", "#x0", "\\", "a;b", "|a|", "\"a\"",
+        "\u{1}", "a\u{7f}", "é", "[", "{", "'", ",", "#x0", "\\", "(;)", "|", "|a", "|a\\|",
+        "|\0|", "\"", "\"a", "\"a\"\"", "\"\x7f\"",
     ];
     for text in cases {
         let read = reading(&rt, rt.alloc(), text.as_bytes())?;
@@ -132,5 +155,40 @@ fn forests_give_their_forms_in_order(rt: HostRuntime) -> Result<(), Fail> {
     );
     assert_eq!(rt; forest.len(), 2);
     assert!(rt; matches!(forest.get(0), Some(Sexpr::Symbol(Atom { place: 1, .. }))));
+    Ok(())
+}
+
+/// The canonical spellings of the forms that the text spells, each on a line.
+fn printed(rt: &impl Abort, alloc: Global, text: &[u8]) -> Result<Bytes, AllocError> {
+    assert!(rt; text.len() < 1000);
+    let mut out = Bytes::new(alloc);
+    let Some(forest) = read_whole(alloc, text)? else {
+        return Ok(out);
+    };
+    for k in 0..forest.len() {
+        let Some(form) = forest.get(k) else {
+            break;
+        };
+        print(form, &mut out)?;
+        out.push(b'\n')?;
+    }
+    Ok(out)
+}
+
+#[test]
+fn prints_canonical_spellings(rt: HostRuntime) -> Result<(), Fail> {
+    let cases = [
+        ("|$x| |a b| || |-4|", "$x\n|a b|\n||\n-4\n"),
+        ("\"say \"\"so\"\"\" 0 12", "\"say \"\"so\"\"\"\n0\n12\n"),
+        (
+            "(set-info\t:a ; a comment\n ( b() ) )",
+            "(set-info :a (b ()))\n",
+        ),
+        ("(((x)y)\r\nz)", "(((x) y) z)\n"),
+    ];
+    for (text, wanted) in cases {
+        let out = printed(&rt, rt.alloc(), text.as_bytes())?;
+        assert_eq!(rt; out.as_slice(), wanted.as_bytes(), "{text}");
+    }
     Ok(())
 }

@@ -15,4 +15,4 @@ returns-then-is_numeral c =
 pub returns : goal.returns
 returns c =
     let w = c.first_word-word in
-    no_word c.args.place c.args.bytes.now w.result.now w.ensures.front w.ensures.word w.ensures.longest (λ h. both_ways _ c.if-is_simple_symbol.false (c.is_simple_symbol.ensures.1 h)) (λ h. both_ways _ c.if-is_numeral.false (c.is_numeral.ensures.1 h)) c.requires.plain c.requires.no_keyword
+    no_word c.args.place c.args.bytes.now w.result.now w.ensures.front w.ensures.word w.ensures.longest (λ h. both_ways _ c.if-is_simple_symbol.false (c.is_simple_symbol.ensures.1 h)) (λ h. both_ways _ c.if-is_numeral.false (c.is_numeral.ensures.1 h)) c.requires.no_keyword c.requires.no_bar c.requires.no_quote

@@ -1,10 +1,13 @@
 use Rattle.std.proofs.Common.{sym, ◌∙◌, subst}
 use Rattle.sexpr_core.specs.Reading.{Steps}
-use Rattle.sexpr_core.proofs.Readings.{steps_blank, steps_open, steps_close}
+use Rattle.sexpr_core.proofs.Readings.{steps_blank, steps_comment, steps_open, steps_close}
 use Rattle.sexpr_core.proofs.reading.Reading.step.Goals as goal
 
 pub returns-then-is_blank : goal.returns-then-is_blank
 returns-then-is_blank c = steps_blank c.args.self.now c.args.text.now c.args.at c.requires.within (sym c.is_blank.ensures ∙ c.if-is_blank.true)
+
+pub returns-then-byte-eq59 : goal.returns-then-byte-eq59
+returns-then-byte-eq59 c = steps_comment c.args.self.now c.args.text.now c.args.at c.comment_end.result c.requires.within c.if-byte-eq59.true c.comment_end.ensures
 
 pub returns-in_ok-open : goal.returns-in_ok-open
 returns-in_ok-open c =
