@@ -24,7 +24,7 @@ const TINY_ANSWER: &str =
     "(answer 1)\n(term $a)\n(size 1)\n(node 0 $a)\n(step 0 S 0 0 (1) ())\n(derived 0 0)\n";
 
 /// Texts of files, with the status and the output of `solve` with bounds of 1.
-const ANSWERS: [(&str, Status, &str); 9] = [
+const ANSWERS: [(&str, Status, &str); 11] = [
     (TINY, Status::Found, TINY_ANSWER),
     (
         "(declare-term-types ((E 0)) (($a)))(define-funs-rec ((S ((t E) (r Int)) Bool)) ((! (match t (($a (= r 1)))) :input () :output (r))))(synth-fun f () E)(constraint (S f 2))(check-synth)",
@@ -36,6 +36,18 @@ const ANSWERS: [(&str, Status, &str); 9] = [
         "(declare-term-types ((E 0)) (($c)))(define-funs-rec ((S ((t E) (r Int)) Bool)) ((! (match t (($c (= r 0)) ($c (= r 1)))) :input () :output (r))))(synth-fun f () E)(constraint (S f 0))(constraint (S f 1))(check-synth)",
         Status::Found,
         "(answer 1)\n(term $c)\n(size 1)\n(node 0 $c)\n(step 0 S 0 0 (0) ())\n(step 1 S 0 1 (1) ())\n(derived 0 0)\n(derived 1 1)\n",
+    ),
+    // Two facts with one input.
+    (
+        "(declare-term-types ((E 0)) (($c)))(define-funs-rec ((S ((t E) (x Int) (r Int)) Bool)) ((! (match t (($c (= r 0)) ($c (= r 1)))) :input (x) :output (r))))(synth-fun f () E)(constraint (S f 5 0))(constraint (S f 5 1))(check-synth)",
+        Status::Found,
+        "(answer 1)\n(term $c)\n(size 1)\n(node 0 $c)\n(step 0 S 0 0 (5 0) ())\n(step 1 S 0 1 (5 1) ())\n(derived 0 0)\n(derived 1 1)\n",
+    ),
+    // Both constructors solve, and the case of the first comes last.
+    (
+        "(declare-term-types ((E 0)) (($a $b)))(define-funs-rec ((S ((t E) (r Int)) Bool)) ((! (match t (($b (= r 1)) ($a (= r 1)))) :input () :output (r))))(synth-fun f () E)(constraint (S f 1))(check-synth)",
+        Status::Found,
+        TINY_ANSWER,
     ),
     // The last of the constructors solves, by an input; one of them has no case.
     (
@@ -159,6 +171,16 @@ fn words_without_a_form_are_bad(rt: HostRuntime) -> Result<(), Fail> {
         let mut files = file_of(&rt, TINY)?;
         check(&rt, line, &mut files, Status::BadWords, "bad words\n")?;
     }
+    Ok(())
+}
+
+#[test]
+fn no_words_are_bad(rt: HostRuntime) -> Result<(), Fail> {
+    let words = Words::new(rt.alloc());
+    let mut files = file_of(&rt, TINY)?;
+    let mut out = MemorySink::new(rt.alloc(), 4096)?;
+    assert!(rt; run(rt.alloc(), &words, &mut files, &mut out) == Status::BadWords);
+    assert!(rt; out.written() == b"bad words\n".as_slice());
     Ok(())
 }
 
