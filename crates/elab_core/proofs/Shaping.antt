@@ -1,5 +1,5 @@
 -- A walk over the items of a form, from the left.
-use Rattle.std.proofs.Common.{◌≡◌, ◌<◌, ◌+◌, ℕ, true, false, Some, List, length, slice_get, get_or, sym, subst, ◌∙◌, below_more, arith}
+use Rattle.std.proofs.Common.{◌≡◌, ◌<◌, ◌+◌, ℕ, true, Some, List, length, slice_get, sym, subst, ◌∙◌, below_more, arith}
 use Rattle.std.proofs.lemmas.Option.{same_Some, slice_get_within}
 use Rattle.sexpr_core.specs.declared.form.Sexpr.{Sexpr}
 use Rattle.elab_core.specs.declared.roles.Due.{Due}

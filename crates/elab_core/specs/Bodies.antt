@@ -1,5 +1,5 @@
 -- The bodies of rules, and the limits that they pass.
-use Rattle.std.specs.Prelude.{ℕ, zero, suc, ◌+◌, ◌≤◌, nat_lt, Bool, if◌then◌else◌, Option, Some, None, unwrap_or, List, [], ◌∷◌, drop, length, slice_get, codes}
+use Rattle.std.specs.Prelude.{ℕ, zero, suc, ◌+◌, ◌≤◌, nat_lt, Bool, if◌then◌else◌, Option, None, unwrap_or, List, [], ◌∷◌, drop, length, slice_get, codes}
 use Rattle.std.specs.Option.{option_or, option_map_or}
 use Rattle.sig_core.specs.Names.{same_name}
 use Rattle.sexpr_core.specs.declared.form.Sexpr.{Sexpr}

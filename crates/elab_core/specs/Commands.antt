@@ -1,5 +1,5 @@
 -- The six commands of a problem file, and the order in which they may stand.
-use Rattle.std.specs.Prelude.{ℕ, Bool, not, ◌||◌, ◌&&◌, true, false, if◌then◌else◌, Option, Some, None, List, [], ◌∷◌, codes}
+use Rattle.std.specs.Prelude.{ℕ, Bool, not, ◌&&◌, true, false, if◌then◌else◌, Option, Some, None, List, codes}
 use Rattle.std.specs.List.{list_any}
 use Rattle.sig_core.specs.Names.{same_name}
 use Rattle.elab_core.specs.declared.commands.Head.{Head}

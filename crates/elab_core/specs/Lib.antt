@@ -1,6 +1,9 @@
 pub mod Bodies
 pub mod Commands
+pub mod FunctionNames
+pub mod GrammarNames
 pub mod Limits
+pub mod Names
 pub mod Orders
 pub mod Roles
 pub mod Shapes

@@ -1,17 +1,12 @@
 -- The limits of a problem file, and the leftmost node of a command that passes one. Places in a list, like all counts,
 -- count from 0, so that a limit of n is passed where the number n is reached.
-use Rattle.std.specs.Prelude.{ℕ, zero, suc, ◌+◌, nat_le, nat_lt, if◌then◌else◌, Option, Some, None, is_some, unwrap_or, List, [], ◌∷◌, map, sum, drop, length, slice_get, codes}
+use Rattle.std.specs.Prelude.{ℕ, suc, ◌+◌, nat_le, nat_lt, if◌then◌else◌, Option, Some, None, is_some, unwrap_or, List, [], ◌∷◌, length, slice_get}
 use Rattle.std.specs.Option.{option_or}
-use Rattle.sig_core.specs.Names.{same_name}
 use Rattle.sexpr_core.specs.declared.form.Sexpr.{Sexpr}
-use Rattle.sexpr_core.specs.Access.{place_of, symbol_of, items_of}
-use Rattle.elab_core.specs.declared.commands.Head.{Head}
-use Rattle.elab_core.specs.declared.commands.Head.TheVariants.{SetInfo, DeclareTermTypes, DefineFunsRec, SynthFun, Constraint, CheckSynth}
+use Rattle.sexpr_core.specs.Access.{place_of, symbol_of}
 use Rattle.elab_core.specs.declared.fault.Fault.{Fault}
 use Rattle.elab_core.specs.declared.limits.Counted.{Counted}
 use Rattle.elab_core.specs.declared.limits.Counted.TheVariants as counted
-use Rattle.elab_core.specs.declared.limits.Counts.{Counts}
-use Rattle.elab_core.specs.Roles.{name_at_front}
 use Rattle.elab_core.specs.Shapes.{first_item, parts_of}
 
 abbrev pub limit_fault : ℕ → ℕ → Fault

@@ -19,16 +19,16 @@ use items::at;
 use sexpr_core::Sexpr;
 
 /// Lists nest at most so deep.
-const DEEPEST: u8 = 200;
+pub(crate) const DEEPEST: u8 = 200;
 
-fn begins(word: &[u8], form: &Sexpr) -> bool
+pub(crate) fn begins(word: &[u8], form: &Sexpr) -> bool
     ensures { result ≡ begins word.now form.now }
 {
     is_word(name_at_front(parts_of(form)), word)
 }
 
 /// The items of the form but for the first.
-fn others_of(form: &Sexpr) -> &[Sexpr]
+pub(crate) fn others_of(form: &Sexpr) -> &[Sexpr]
     ensures { result.now ≡ others_of form.now }
 {
     match parts_of(form) {
@@ -96,13 +96,20 @@ fn pass_case(slots: usize, number: usize, form: &Sexpr) -> Result<usize, Fault>
     Ok(pass_body(DEEPEST, slots, number, item_of(form, 1))?)
 }
 
+/// The cases of `(! (match s (case ..)) A A)`.
+pub(crate) fn cases_of(form: &Sexpr) -> &[Sexpr]
+    ensures { result.now ≡ cases_of form.now }
+{
+    parts_of(item_of(item_of(form, 1), 2))
+}
+
 /// The number after the rules of the definition of a relation with so many parameters.
 fn pass_definition(slots: usize, number: usize, form: &Sexpr) -> Result<usize, Fault>
     requires { number ≤ 16384 }
     ensures fault { result_err result ≡ definition_fault deepest slots number form.now }
     ensures next { IfOk result (λ next. (next ≡ number + definition_count deepest form.now) × (next ≤ 16384)) }
 {
-    let cases = parts_of(item_of(item_of(form, 1), 2));
+    let cases = cases_of(form);
     let mut next = number;
     for case in cases {
         next = pass_case(slots, next, case)?;

@@ -55,7 +55,7 @@ pub(crate) fn past(most: usize, limit: u8, number: usize, place: u32) -> Option<
 }
 
 /// The symbol that names what the form declares: the form itself, or the first item of a list.
-fn name_in(form: &Sexpr) -> &Sexpr
+pub(crate) fn name_in(form: &Sexpr) -> &Sexpr
     ensures { result.now ≡ name_in form.now }
 {
     match parts_of(form) {

@@ -54,7 +54,7 @@ pub fn command_head(order: Order, form: &Sexpr) -> Result<Head, Fault>
     }
 }
 
-fn refusal(place: u32, reason: u8) -> Fault
+pub(crate) fn refusal(place: u32, reason: u8) -> Fault
     ensures { result ≡ refusal place reason }
 {
     Fault {

@@ -1,4 +1,4 @@
-use Rattle.std.proofs.Common.{◌≡◌, ◌+◌, ◌≤◌, drop, length}
+use Rattle.std.proofs.Common.{◌≡◌, ◌+◌, ◌≤◌, drop}
 use Rattle.elab_core.specs.Limits.{first_fault, most_of}
 use Rattle.elab_core.proofs.limits.pass_all.Given as goal
 

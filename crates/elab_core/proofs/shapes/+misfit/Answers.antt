@@ -1,4 +1,4 @@
-use Rattle.std.proofs.Common.{◌≡◌, ◌∙◌, sym, arith, refl}
+use Rattle.std.proofs.Common.{◌∙◌, sym, arith, refl}
 use Rattle.std.proofs.lemmas.Option.{slice_get_read}
 use Rattle.elab_core.specs.Shapes.IsMisfit.{itself}
 use Rattle.elab_core.proofs.Shaping.{found, all_shaped, one_more}

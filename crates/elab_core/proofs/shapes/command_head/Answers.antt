@@ -1,4 +1,4 @@
-use Rattle.std.proofs.Common.{◌≡◌, ◌∙◌, sym, ap}
+use Rattle.std.proofs.Common.{◌∙◌, sym, ap}
 use Rattle.std.specs.Prelude.{option_and_then}
 use Rattle.sexpr_core.specs.Access.{symbol_of}
 use Rattle.elab_core.specs.Shapes.IsNoCommand.{unknown, out_of_order, misshapen}
