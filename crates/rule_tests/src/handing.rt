@@ -4,7 +4,7 @@ ghost use Rattle.rule_core.specs.Rulebooks.{HasSmallParts, IsRuleOf};
 ghost use Rattle.rule_tests.specs.Examples.{example};
 
 use crate::language::example;
-use crate::rules::{GIVES, MAPS, PLUS, alone, call, rule, slot, successor, variables};
+use crate::rules::{GIVES, MAPS, PLUS, alone, call, pair, rule, slot, successor, variables};
 use expr_core::Expr;
 use rule_core::{AddError, Atom, Rule, Rulebook, Who};
 use sig_core::{RelId, Value};
@@ -88,9 +88,18 @@ fn own_call(alloc: Global) -> Result<(bool, bool), AddError> {
     handed(alloc, first, with_atom(alloc, MAPS, further)?)
 }
 
+/// A rule that asks for both children at the input, as the sum does.
+fn both_children(alloc: Global) -> Result<(bool, bool), AddError> {
+    let left = call(alloc, MAPS, Who::Child(0), slot(0), slot(1))?;
+    let right = call(alloc, MAPS, Who::Child(1), slot(0), slot(1))?;
+    let atoms = pair(alloc, left, right)?;
+    handed_alone(alloc, rule(alloc, MAPS, PLUS, variables(alloc, 0)?, atoms))
+}
+
 #[test]
 fn hands_on_where_inputs_are_handed_on(rt: HostRuntime) {
     assert_eq!(rt; same_input(rt.alloc()), Ok((true, true)));
+    assert_eq!(rt; both_children(rt.alloc()), Ok((true, true)));
 }
 
 #[test]
