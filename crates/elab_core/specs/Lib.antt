@@ -1,9 +1,12 @@
 pub mod Bodies
 pub mod Commands
 pub mod FunctionNames
+pub mod FunctionSorts
 pub mod GrammarNames
+pub mod GrammarSorts
 pub mod Limits
 pub mod Names
 pub mod Orders
 pub mod Roles
 pub mod Shapes
+pub mod Sorts

@@ -40,7 +40,7 @@ fn new_variable_fault(scope: &NameTable, name: &Sexpr) -> Option<Fault>
 }
 
 /// The name of the sort or of the type in a pair.
-fn sort_in(pair: &Sexpr) -> &[u8]
+pub(crate) fn sort_in(pair: &Sexpr) -> &[u8]
     ensures { result.now ≡ sort_in pair.now }
 {
     text_of(item_of(pair, 1))
@@ -117,7 +117,7 @@ fn are_digits(bytes: &[u8]) -> bool
     bytes.iter().all(|byte| byte.is_ascii_digit())
 }
 
-fn is_negative(name: &[u8]) -> bool
+pub(crate) fn is_negative(name: &[u8]) -> bool
     ensures { result ≡ is_negative name.now }
 {
     match name {
@@ -194,7 +194,7 @@ fn first_operand(
 }
 
 /// Takes the last names away, so many as were added.
-fn leave(names: &mut NameTable, count: usize)
+pub(crate) fn leave(names: &mut NameTable, count: usize)
     ensures { (outer added : List (List ℕ)) → names.old ≡ outer ++ added → length added ≡ count → names.new ≡ outer }
 {
     for removed in 0..count {
@@ -354,17 +354,25 @@ fn first_case(
     Ok(None)
 }
 
+/// Puts the names that the forms declare last, each once.
+pub(crate) fn enter(alloc: Global, names: &mut NameTable, forms: &[Sexpr]) -> Result<(), AllocError>
+    ensures { IfOk result (λ _. names.new ≡ distinct_from names.old (names_in forms.now)) }
+{
+    for form in forms {
+        let name = name_in(form);
+        if !has(names, text_of(name)) {
+            keep(alloc, names, name)?;
+        }
+    }
+    Ok(())
+}
+
 /// The names that parameters bring into the scope of a definition, each once.
-fn scope_of(alloc: Global, pairs: &[Sexpr]) -> Result<NameTable, AllocError>
+pub(crate) fn scope_of(alloc: Global, pairs: &[Sexpr]) -> Result<NameTable, AllocError>
     ensures { IfOk result (λ scope. scope ≡ scope_of pairs.now) }
 {
     let mut scope = NameTable::new(alloc);
-    for pair in pairs {
-        let name = name_in(pair);
-        if !has(&scope, text_of(name)) {
-            keep(alloc, &mut scope, name)?;
-        }
-    }
+    enter(alloc, &mut scope, pairs)?;
     Ok(scope)
 }
 
@@ -498,7 +506,7 @@ fn definition_fault(
 }
 
 /// The parameters of the k-th of the declarations.
-fn parameters_at(declarations: &[Sexpr], k: usize) -> &[Sexpr]
+pub(crate) fn parameters_at(declarations: &[Sexpr], k: usize) -> &[Sexpr]
     ensures { result.now ≡ parameters_at declarations.now k }
 {
     match at(declarations, k) {
