@@ -31,3 +31,10 @@ failing_takes m = m.failing_takes
 -- how many bytes a take gives at most
 abbrev pub most_at_once : MemoryFiles → ℕ
 most_at_once m = m.most_at_once
+
+-- the calls so far
+abbrev pub begins : MemoryFiles → ℕ
+begins m = m.begins
+
+abbrev pub takes : MemoryFiles → ℕ
+takes m = m.takes

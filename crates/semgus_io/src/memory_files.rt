@@ -33,11 +33,12 @@ pub struct MemoryFiles {
 }
 
 impl MemoryFiles {
-    ghost use Rattle.semgus_io.specs.Memory.{held, failing_begins, failing_takes, most_at_once};
+    ghost use Rattle.semgus_io.specs.Memory.{begins, failing_begins, failing_takes, held, most_at_once, takes};
 
     /// Holds no file. A take gives as many bytes as there are and its buffer has room for.
     pub fn new(alloc: Global) -> MemoryFiles
-        ensures { (name : List ℕ) → held result name ≡ Some None }
+        ensures held { (name : List ℕ) → held result name ≡ Some None }
+        ensures calls { (begins result ≡ 0) × (takes result ≡ 0) }
     {
         MemoryFiles {
             entries: Vec::new(alloc),
@@ -59,6 +60,7 @@ impl MemoryFiles {
         ensures this { OnOk result (held self.new name.now ≡ Some (Some bytes.now)) }
         ensures others { (other : List ℕ) → other ≢ name.now → held self.new other ≡ held self.old other }
         ensures err { OnErr result ((other : List ℕ) → held self.new other ≡ held self.old other) }
+        ensures calls { (begins self.new ≡ begins self.old) × (takes self.new ≡ takes self.old) }
     {
         let mut entry = Entry::new(self.alloc);
         entry.name.append(name.as_bytes())?;
@@ -73,6 +75,7 @@ impl MemoryFiles {
         requires { 0 < n }
         ensures most { most_at_once self.new ≡ n }
         ensures held { (name : List ℕ) → held self.new name ≡ held self.old name }
+        ensures calls { (begins self.new ≡ begins self.old) × (takes self.new ≡ takes self.old) }
     {
         self.most_at_once = n;
     }
@@ -82,6 +85,7 @@ impl MemoryFiles {
         ensures ok { OnOk result (failing_begins self.new ≡ failing_begins self.old ++ k ∷ []) }
         ensures err { OnErr result (failing_begins self.new ≡ failing_begins self.old) }
         ensures held { (name : List ℕ) → held self.new name ≡ held self.old name }
+        ensures calls { (begins self.new ≡ begins self.old) × (takes self.new ≡ takes self.old) }
     {
         self.failing_begins.push(k)
     }
@@ -91,6 +95,7 @@ impl MemoryFiles {
         ensures ok { OnOk result (failing_takes self.new ≡ failing_takes self.old ++ k ∷ []) }
         ensures err { OnErr result (failing_takes self.new ≡ failing_takes self.old) }
         ensures held { (name : List ℕ) → held self.new name ≡ held self.old name }
+        ensures calls { (begins self.new ≡ begins self.old) × (takes self.new ≡ takes self.old) }
     {
         self.failing_takes.push(k)
     }

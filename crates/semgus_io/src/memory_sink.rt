@@ -18,10 +18,10 @@ pub struct MemorySink {
 }
 
 impl MemorySink {
-    ghost use Rattle.semgus_io.specs.MemorySinks.{taken_bytes, failing_puts, most_at_once};
+    ghost use Rattle.semgus_io.specs.MemorySinks.{failing_puts, most_at_once, puts, room_of, taken_bytes};
 
     pub fn new(alloc: Global, room: usize) -> Result<MemorySink, AllocError>
-        ensures { IfOk result (λ sink. taken_bytes sink ≡ []) }
+        ensures { IfOk result (λ sink. (taken_bytes sink ≡ []) × (puts sink ≡ 0) × (room_of sink ≡ room)) }
     {
         Ok(MemorySink {
             room: vec![in alloc; 0; room]?,
@@ -38,6 +38,7 @@ impl MemorySink {
         requires { 0 < n }
         ensures most { most_at_once self.new ≡ n }
         ensures taken { taken_bytes self.new ≡ taken_bytes self.old }
+        ensures same { (puts self.new ≡ puts self.old) × (room_of self.new ≡ room_of self.old) }
     {
         self.most_at_once = n;
     }
@@ -47,6 +48,7 @@ impl MemorySink {
         ensures ok { OnOk result (failing_puts self.new ≡ failing_puts self.old ++ k ∷ []) }
         ensures err { OnErr result (failing_puts self.new ≡ failing_puts self.old) }
         ensures taken { taken_bytes self.new ≡ taken_bytes self.old }
+        ensures same { (puts self.new ≡ puts self.old) × (room_of self.new ≡ room_of self.old) }
     {
         self.failing_puts.push(k)
     }
