@@ -1,6 +1,6 @@
 -- The first place of a name, and names that stay distinct.
 use Rattle.std.proofs.Common.{◌≡◌, ◌≢◌, ℕ, ◌+◌, ◌<◌, ◌≤◌, Bool, true, false, not, cond, List, [], ◌∷◌, ◌++◌, length, map, get_or, Some, None, refl, sym, ap, ◌∙◌, arith}
-use Rattle.std.specs.Prelude.{nat_lt, AllPairs, position}
+use Rattle.std.specs.Prelude.{nat_lt, ◌&&◌, AllPairs, position}
 use Rattle.std.specs.List.{prefix_len, position_or_len, list_any}
 use Rattle.std.specs.Cmp.Lexicographic.{bytes_decides}
 use Rattle.std.proofs.Math.Bool.{true≢false}
@@ -11,7 +11,7 @@ use Rattle.std.proofs.lemmas.List.Elements.{All-from_get_or}
 use Rattle.std.proofs.lemmas.List.Quantifiers.{all_pairs_push}
 use Rattle.std.specs.List.{list_all}
 use Rattle.std.specs.Char.{is_ascii_digit}
-use Rattle.sig_core.specs.Names.{is_symbol_byte, is_simple_symbol, same_name, place_of, AreDistinct}
+use Rattle.sig_core.specs.Names.{is_digit, is_symbol_byte, is_simple_symbol, same_name, place_of, AreDistinct}
 
 prefix_len-map : {X Y : Type 0} (p : Y → Bool) (f : X → Y) (xs : List X) → prefix_len p (map f xs) ≡ prefix_len (λ x. p (f x)) xs
 prefix_len-map p f [] = refl
@@ -53,8 +53,12 @@ AllPairs-front R xs ys zs e h i j d l m =
 -- a first byte that is no digit, and bytes of a simple symbol alone
 pub spells : (name : List ℕ) (first : ℕ) (answer : Bool) → 0 < length name → is_ascii_digit (get_or name 0 first) ≡ false → answer ≡ list_all is_symbol_byte name → answer ≡ is_simple_symbol name
 spells [] first answer l d e = absurd (omega arith)
-spells (b ∷ bs) first answer l d e = rw d e
+spells (b ∷ bs) first answer l d e =
+    let letter : is_digit b ≡ false = d in
+    e ∙ sym (ap (λ digit. not digit && list_all is_symbol_byte (b ∷ bs)) letter)
 
 pub spells_not : (name : List ℕ) (first : ℕ) → 0 < length name → is_ascii_digit (get_or name 0 first) ≡ true → false ≡ is_simple_symbol name
 spells_not [] first l d = absurd (omega arith)
-spells_not (b ∷ bs) first l d = rw d
+spells_not (b ∷ bs) first l d =
+    let digit : is_digit b ≡ true = d in
+    sym (ap (λ digit. not digit && list_all is_symbol_byte (b ∷ bs)) digit)

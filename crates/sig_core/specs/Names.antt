@@ -1,7 +1,6 @@
 -- Names: the first place of one in a list, and how a symbol is spelled.
-use Rattle.std.specs.Prelude.{◌≢◌, ℕ, Bool, false, not, ◌&&◌, ◌||◌, nat_eq, if◌then◌else◌, Option, List, [], ◌∷◌, ◌++◌, AllPairs, position, codes}
+use Rattle.std.specs.Prelude.{◌≢◌, ℕ, Bool, false, not, ◌&&◌, ◌||◌, nat_eq, nat_le, ◌==◌, if◌then◌else◌, Option, List, [], ◌∷◌, ◌++◌, AllPairs, position, codes}
 use Rattle.std.specs.List.{list_all, list_any}
-use Rattle.std.specs.Char.{is_ascii_digit, is_ascii_alphanumeric}
 use Rattle.std.specs.Cmp.Lexicographic.{pointwise}
 
 -- the names are the same bytes
@@ -26,14 +25,24 @@ reserved_words = codes "!" ∷ codes "_" ∷ codes "as" ∷ codes "exists" ∷ c
 unfoldable pub is_reserved : List ℕ → Bool
 is_reserved name = list_any (λ word. same_name word name) reserved_words
 
--- a letter, a digit, or one of the signs of a simple symbol
-unfoldable pub is_symbol_byte : ℕ → Bool
-is_symbol_byte b = is_ascii_alphanumeric b || list_any (λ sign. nat_eq sign b) (codes "~!@$%^&*_-+=<>.?/")
+-- a byte from the first of a range to its last
+abbrev pub is_between : ℕ → ℕ → ℕ → Bool
+is_between first last byte = nat_le first byte && nat_le byte last
+
+abbrev pub is_digit : ℕ → Bool
+is_digit byte = is_between 48 57 byte
+
+abbrev pub is_letter : ℕ → Bool
+is_letter byte = is_between 65 90 byte || is_between 97 122 byte
+
+-- a letter, a digit, or one of the seventeen signs of a simple symbol
+abbrev pub is_symbol_byte : ℕ → Bool
+is_symbol_byte byte = is_letter byte || is_digit byte || list_any (λ mark. mark == byte) (codes "~!@$%^&*_-+=<>.?/")
 
 -- one or more bytes of a simple symbol, of which the first is no digit
 abbrev pub is_simple_symbol : List ℕ → Bool
 is_simple_symbol [] = false
-is_simple_symbol (b ∷ bs) = not (is_ascii_digit b) && list_all is_symbol_byte (b ∷ bs)
+is_simple_symbol (byte ∷ bytes) = not (is_digit byte) && list_all is_symbol_byte (byte ∷ bytes)
 
 -- the canonical spelling of the symbol with these bytes: plain where a simple symbol can spell it, else in bars
 abbrev pub symbol_text : List ℕ → List ℕ

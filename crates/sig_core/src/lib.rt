@@ -13,7 +13,7 @@ pub use ids::{ConId, RelId, TypeId, TypeIds};
 use items::Items;
 pub use names::NameTable;
 pub use signature::{Constructor, Kind, Param, Params, Relation, SigError, Signature};
-pub use text::{is_reserved, is_simple_symbol, is_symbol_byte, put_symbol, put_value};
+pub use text::{bytes_of, is_reserved, is_simple_symbol, is_symbol_byte, put_symbol, put_value};
 pub use value::{Sort, Value, Values, order};
 
 /// A list of bytes.

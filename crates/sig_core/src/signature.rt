@@ -8,7 +8,7 @@ ghost use Rattle.sig_core.specs.declared.signature.SigError.TheVariants.{Memory}
 use crate::Bytes;
 use crate::ids::{ConId, RelId, TypeId, TypeIds};
 use crate::names::NameTable;
-use crate::text::is_reserved;
+use crate::text::{bytes_of, is_reserved};
 use crate::value::Sort;
 use items::Items;
 use std::alloc::{AllocError, Global};
@@ -54,7 +54,7 @@ pub enum SigError {
     Twice,
     /// The number of the limit that adding would pass: 5 is 256 types, 6 is 4,096 constructors, 7 is 16 children of a
     /// constructor, 8 is 256 relations, 9 is 32 parameters of a relation.
-    #[error("limit {0} is passed")]
+    #[error("a limit is passed")]
     Limit(u8),
     #[error("out of memory")]
     Memory,
@@ -124,8 +124,8 @@ impl Signature {
             return Err(refusal);
         }
         let id = TypeId(self.types());
-        let kept = copy_of(self.alloc, name)?;
-        let key = copy_of(self.alloc, name)?;
+        let kept = bytes_of(self.alloc, name)?;
+        let key = bytes_of(self.alloc, name)?;
         push_named(&mut self.types, &mut self.type_places, kept, key)?;
         Ok(id)
     }
@@ -152,7 +152,7 @@ impl Signature {
         }
         let id = ConId(self.constructors());
         let made = constructor_of(self.alloc, name, owner, args)?;
-        let key = copy_of(self.alloc, name)?;
+        let key = bytes_of(self.alloc, name)?;
         push_named(
             &mut self.constructors,
             &mut self.constructor_places,
@@ -308,14 +308,6 @@ impl Signature {
     }
 }
 
-pub(crate) fn copy_of(alloc: Global, bytes: &[u8]) -> Result<Bytes, AllocError>
-    ensures { IfOk result (λ copy. copy ≡ bytes.now) }
-{
-    let mut copy = Bytes::new(alloc);
-    copy.append(bytes)?;
-    Ok(copy)
-}
-
 fn constructor_of(
     alloc: Global,
     name: &[u8],
@@ -327,7 +319,7 @@ fn constructor_of(
     let mut types = TypeIds::new(alloc);
     types.append(args)?;
     Ok(Constructor {
-        name: copy_of(alloc, name)?,
+        name: bytes_of(alloc, name)?,
         owner,
         args: types,
     })

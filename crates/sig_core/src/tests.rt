@@ -1,7 +1,7 @@
 ghost use Rattle.std.specs.Prelude.{◌≡◌, [], ◌∷◌, codes, IfOk};
 ghost use Rattle.sig_core.specs.declared.signature.Kind.TheVariants.{Term};
 
-use crate::signature::copy_of;
+use crate::text::bytes_of;
 use crate::{
     Bytes, ConId, Kind, Param, Params, RelId, Relation, SigError, Signature, TypeId, Value,
     is_reserved, is_simple_symbol, is_symbol_byte, order, put_symbol, put_value,
@@ -106,11 +106,11 @@ fn one_parameter(alloc: Global, owner: TypeId) -> Result<Relation, AllocError>
 {
     let mut params = Params::new(alloc);
     params.push(Param {
-        name: copy_of(alloc, b"t")?,
+        name: bytes_of(alloc, b"t")?,
         kind: Kind::Term(owner),
     })?;
     Ok(Relation {
-        name: copy_of(alloc, b"S")?,
+        name: bytes_of(alloc, b"S")?,
         params,
     })
 }

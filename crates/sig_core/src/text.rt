@@ -1,4 +1,4 @@
-ghost use Rattle.std.specs.Prelude.{◌≡◌, ◌++◌, OnOk, OnErr};
+ghost use Rattle.std.specs.Prelude.{◌≡◌, ◌++◌, IfOk, OnOk, OnErr};
 ghost use Rattle.std.specs.List.{list_all};
 ghost use Rattle.sig_core.specs.Names.{is_symbol_byte, is_simple_symbol, is_reserved, symbol_text};
 ghost use Rattle.sig_core.specs.Texts.{literal_text, IsPart};
@@ -6,7 +6,16 @@ ghost use Rattle.sig_core.specs.Texts.{literal_text, IsPart};
 use crate::Bytes;
 use crate::value::Value;
 use itoa::Buffer;
-use std::alloc::AllocError;
+use std::alloc::{AllocError, Global};
+
+/// A list of these bytes.
+pub fn bytes_of(alloc: Global, bytes: &[u8]) -> Result<Bytes, AllocError>
+    ensures { IfOk result (λ list. list ≡ bytes.now) }
+{
+    let mut list = Bytes::new(alloc);
+    list.append(bytes)?;
+    Ok(list)
+}
 
 /// Appends the value's literal, as SMT-LIB 2.6 spells it: a numeral, `(- n)`, `true` or `false`.
 pub fn put_value(value: &Value, out: &mut Bytes) -> Result<(), AllocError>
@@ -79,7 +88,6 @@ fn has_symbol_bytes(bytes: &[u8]) -> bool
 }
 
 /// Whether a simple symbol may hold the byte.
-#[tactic(auto, unfolding(crate::specs::Names::is_symbol_byte))]
 pub fn is_symbol_byte(byte: u8) -> bool
     ensures { result ≡ is_symbol_byte byte }
 {
