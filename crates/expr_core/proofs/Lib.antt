@@ -8,3 +8,4 @@ pub mod Distinctness
 pub mod Surveys
 pub mod Checks
 pub mod Sorted
+pub mod Naming

@@ -1,7 +1,9 @@
 pub mod Division
 pub mod Operators
 pub mod Sorts
+pub mod Names
 pub mod Partials
+pub mod Seen
 pub mod Expressions
 pub mod Faults
 pub mod Laws

@@ -1,5 +1,6 @@
 //! Laws of the definitions, for whoever builds on them. The functions do nothing.
 
+ghost use Rattle.expr_core.specs.Names.{FoundByName, NameOfFound};
 ghost use Rattle.expr_core.specs.Laws.{DivisionExists, DivisionIsUnique, NothingByZero, OnlySlotsCount, ReasonsAreOfNodes, SlotsKeepValues, SortedHasNoBadNode, ValuesHaveSorts};
 
 /// By a number other than 0 there is a quotient with a remainder.
@@ -40,4 +41,10 @@ pub fn reasons_are_of_nodes()
 /// A slot of an environment has what was put in it last.
 pub fn slots_keep_values()
     ensures { SlotsKeepValues }
+{}
+
+/// An operator is found by its name and by no other.
+pub fn one_name()
+    ensures found { FoundByName }
+    ensures name { NameOfFound }
 {}

@@ -7,9 +7,11 @@
 mod env;
 mod expr;
 mod laws;
+mod names;
 mod numbers;
 mod pairs;
 mod partial;
+mod seen;
 mod sorts;
 mod table;
 #[cfg(test)]
@@ -19,7 +21,9 @@ mod value;
 pub use env::Env;
 pub use expr::{Expr, Kids, Op};
 pub use laws::{
-    division_exists, division_is_unique, nothing_by_zero, only_slots_count, reasons_are_of_nodes,
-    slots_keep_values, sorted_has_no_bad_node, values_have_sorts,
+    division_exists, division_is_unique, nothing_by_zero, one_name, only_slots_count,
+    reasons_are_of_nodes, slots_keep_values, sorted_has_no_bad_node, values_have_sorts,
 };
+pub use names::{name_of, operator_named};
 pub use sorts::SortFault;
+pub use table::takes;

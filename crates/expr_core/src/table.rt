@@ -3,8 +3,9 @@ ghost use Rattle.expr_core.specs.Sorts.{takes};
 
 use crate::expr::Op;
 
-/// Whether the operator takes so many operands.
-pub(crate) fn takes(op: Op, count: usize) -> bool
+/// Whether the operator takes so many operands: as in SMT-LIB 2.6, but that a single one will do for `and`, `or`, `+` and
+/// `*`.
+pub fn takes(op: Op, count: usize) -> bool
     ensures { result ≡ takes op count }
 {
     match op {
