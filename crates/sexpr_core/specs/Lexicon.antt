@@ -1,10 +1,7 @@
 -- The bytes and the tokens of the lexicon of SMT-LIB 2.6, as this project reads it. A byte is its number.
 use Rattle.std.specs.Prelude.{◌≡◌, ◌≢◌, ℕ, List, [], ◌∷◌, Bool, ◌||◌, ◌&&◌, not, nat_le, ◌==◌, if◌then◌else◌, IsTrue, IsFalse, codes}
 use Rattle.std.specs.List.{list_all, list_any}
-
--- a byte from the first of a range to its last
-abbrev pub is_between : ℕ → ℕ → ℕ → Bool
-is_between first last byte = nat_le first byte && nat_le byte last
+pub use Rattle.sig_core.specs.Names.{is_between, is_digit, is_letter, is_symbol_byte}
 
 -- TAB, LF, CR or space
 abbrev pub is_blank : ℕ → Bool
@@ -13,16 +10,6 @@ is_blank byte = list_any (λ blank. blank == byte) (9 ∷ 10 ∷ 13 ∷ 32 ∷ [
 -- LF or CR
 abbrev pub is_line_end : ℕ → Bool
 is_line_end byte = list_any (λ line_end. line_end == byte) (10 ∷ 13 ∷ [])
-
-abbrev pub is_digit : ℕ → Bool
-is_digit byte = is_between 48 57 byte
-
-abbrev pub is_letter : ℕ → Bool
-is_letter byte = is_between 65 90 byte || is_between 97 122 byte
-
--- a letter, a digit or one of seventeen further characters
-abbrev pub is_symbol_byte : ℕ → Bool
-is_symbol_byte byte = is_letter byte || is_digit byte || list_any (λ mark. mark == byte) (codes "~!@$%^&*_-+=<>.?/")
 
 -- may stand in a quoted symbol or a string: a blank, a printable character or a byte from 128 on
 abbrev pub is_allowed : ℕ → Bool

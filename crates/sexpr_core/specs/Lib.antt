@@ -1,6 +1,14 @@
 pub mod Access
+pub mod Examples
+pub mod Feeds
+pub mod Following
 pub mod Lexicon
+pub mod Model
+pub mod Prefixes
 pub mod Reading
+pub mod Reads
+pub mod Respelling
 pub mod Sizes
 pub mod Spelling
+pub mod Standing
 pub mod Texts

@@ -2,16 +2,23 @@
 #![tactic(auto)]
 
 mod access;
+mod fault;
 mod forest;
 mod form;
+mod laws;
 mod lexicon;
 mod printing;
+mod reader;
 mod reading;
 #[cfg(test)]
 mod tests;
-mod token;
 
+pub use fault::{FeedError, LexFault};
 pub use forest::Forest;
 pub use form::{Atom, Forms, Nest, Sexpr};
+pub use laws::{
+    forms_spelled_again, giving_grows, one_fault, one_giving, one_spelling, prefix_examples,
+};
 pub use printing::print;
-pub use reading::{one_spelling, read_whole};
+pub use reader::Reader;
+pub use reading::read_whole;
