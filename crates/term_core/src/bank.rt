@@ -1,20 +1,26 @@
 ghost use Rattle.std.specs.Prelude.{◌≡◌, ◌+◌, ◌<◌, ◌^◌, [], ◌∷◌, ◌++◌, ◌↔◌, map, length, All, Contains, IfOk, OnOk, OnErr};
 ghost use Rattle.term_core.specs.Banks.{EachOnce, IsLive, Keeps, Lists, tree_of};
 ghost use Rattle.term_core.specs.Terms.{con_of, node, size, term_cmp};
+ghost use Rattle.term_core.specs.Typings.{IsBankOf, IsTermOf};
+ghost use Rattle.sig_core.specs.Signatures.{Declarations};
 
 use crate::ids::{Ids, TermId};
 use crate::node::{self, Node};
 use crate::tree::Tree;
+use indexmap::IndexMap;
 use items::Items;
 use sig_core::{ConId, Signature};
 use std::alloc::{AllocError, Global};
 use std::cmp::Ordering;
 use std::marker::Model;
+use tables::{Table, list_at, push};
 
 /// Terms over shared nodes: equal terms have one id. A bank only grows, and an id stands for its term for good.
 #[derive(Debug, Drop)]
 pub struct Bank {
     nodes: Items<Node>,
+    /// the numbers of the nodes of each key
+    places: Table<u64>,
     alloc: Global,
 }
 
@@ -28,11 +34,12 @@ impl Model for Bank {
 
     ghost coded = { Prim.hlevel (codes, term.the_row.coded) };
 
-    ghost use Rattle.term_core.specs.Nodes.{IsBank, trees_of};
+    ghost use Rattle.term_core.specs.Nodes.{trees_of};
+    ghost use Rattle.term_core.specs.Keys.{IsTabled};
 
     ghost view = { λ b. trees_of b.nodes };
 
-    ghost invariant = { λ b. IsBank b.nodes };
+    ghost invariant = { λ b. IsTabled b.places b.nodes };
 }
 
 impl Bank {
@@ -41,6 +48,7 @@ impl Bank {
     {
         Bank {
             nodes: Items::new(alloc),
+            places: IndexMap::new(alloc),
             alloc,
         }
     }
@@ -73,8 +81,12 @@ impl Bank {
             → self.new ≡ self.old ++ node con (map (tree_of self.old) kids.now) ∷ []) }
         ensures err { OnErr result (self.new ≡ self.old) }
         ensures each_once { EachOnce self.new }
+        ensures of_signature { (sig : Declarations) → IsTermOf sig (node con (map (tree_of self.old) kids.now)) → IsBankOf sig self.old
+            → IsBankOf sig self.new }
     {
-        if let Some(place) = node::find(self.nodes.as_slice(), con, kids) {
+        let key = node::key_of(con, kids);
+        let numbers = list_at(&self.places, &key);
+        if let Some(place) = node::find(self.nodes.as_slice(), numbers, con, kids) {
             return Ok(TermId(place));
         }
         let id = TermId(self.nodes.len());
@@ -86,6 +98,10 @@ impl Bank {
             kids: own,
             size,
         })?;
+        if push(self.alloc, &mut self.places, key, id.0).is_err() {
+            self.nodes.pop();
+            return Err(AllocError);
+        }
         Ok(id)
     }
 

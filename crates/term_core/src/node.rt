@@ -2,6 +2,8 @@ ghost use Rattle.std.specs.Prelude.{◌≡◌, ◌+◌, ◌<◌, ◌^◌, [], �
 ghost use Rattle.term_core.specs.Banks.{Lists, tree_of};
 ghost use Rattle.term_core.specs.Marks.{MarkSubterms, marked_from, marked_with};
 ghost use Rattle.term_core.specs.Nodes.{HasNode, IsBank, trees_of};
+ghost use Rattle.term_core.specs.Keys.{HasNodeAt, has_key, key_of};
+ghost use Rattle.tables.specs.Tables.{places};
 ghost use Rattle.term_core.specs.Terms.{node, size, term_cmp};
 
 use crate::ids::{Ids, TermId};
@@ -24,15 +26,39 @@ fn same_ids(left: &[TermId], right: &[TermId]) -> bool
     left == right
 }
 
-/// The place of the node with this constructor and these children.
-pub(crate) fn find(nodes: &[Node], con: ConId, kids: &[TermId]) -> Option<usize>
+/// The key of a constructor and children in the table of a bank.
+pub(crate) fn key_of(con: ConId, kids: &[TermId]) -> u64
+    ensures { result ≡ key_of con kids.now }
+{
+    let mut key = u64::from(con.0);
+    for kid in kids {
+        key = key
+            .wrapping_mul(0x9E37_79B9_7F4A_7C15)
+            .wrapping_add(kid.0 as u64);
+    }
+    key
+}
+
+fn has_node_at(nodes: &[Node], number: usize, con: ConId, kids: &[TermId]) -> bool
+    ensures { IsTrue result ↔ HasNodeAt con kids.now nodes.now number }
+{
+    if number >= nodes.len() {
+        return false;
+    }
+    let node = &nodes[number];
+    node.con == con && same_ids(node.kids.as_slice(), kids)
+}
+
+/// The place of the node with this constructor and these children, among the nodes of their key.
+pub(crate) fn find(nodes: &[Node], numbers: &[usize], con: ConId, kids: &[TermId]) -> Option<usize>
+    requires { numbers.now ≡ places (has_key (key_of con kids.now)) 0 nodes.now }
     ensures { MatchOption result
         (All (λ n. HasNode con kids.now n → ⊥) nodes.now)
         (λ place. (place < length nodes.now) × ((d : _) → HasNode con kids.now (slice_index_or nodes.now place d))) }
 {
-    for (place, node) in nodes.iter().enumerate() {
-        if node.con == con && same_ids(node.kids.as_slice(), kids) {
-            return Some(place);
+    for number in numbers {
+        if has_node_at(nodes, *number, con, kids) {
+            return Some(*number);
         }
     }
     None

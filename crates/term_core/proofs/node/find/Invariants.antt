@@ -1,6 +1,6 @@
 use Rattle.std.proofs.Common.{take, All}
-use Rattle.term_core.specs.Nodes.{HasNode}
+use Rattle.term_core.specs.Keys.{HasNodeAt}
 use Rattle.term_core.proofs.node.find.Given as goal
 
-abbrev pub invariant-loop-place : goal.invariant-loop-place
-invariant-loop-place l = All (λ n. HasNode l.con l.kids n → ⊥) (take l.place l.nodes)
+abbrev pub invariant-loop-number : goal.invariant-loop-number
+invariant-loop-number l = All (λ k. HasNodeAt l.con l.kids l.nodes k → ⊥) (take l.number-index l.numbers)
