@@ -4,6 +4,6 @@ pub mod Determined
 pub mod Flowing
 pub mod Arguments
 pub mod Slotted
-pub mod Places
-pub mod Lists
 pub mod Numbered
+pub mod Handed
+pub mod Accepted

@@ -1,5 +1,5 @@
 -- Data flow of a rule from left to right, determined rules, and handing on.
-use Rattle.std.specs.Prelude.{◌≡◌, ℕ, suc, Bool, true, false, not, ◌&&◌, nat_eq, if◌then◌else◌, Option, Some, None, option_and_then, List, [], ◌∷◌, ◌++◌, map, length, slice_get, is_some, All}
+use Rattle.std.specs.Prelude.{◌≡◌, ℕ, suc, Bool, true, false, not, ◌&&◌, nat_eq, if◌then◌else◌, Option, Some, None, option_and_then, List, [], ◌∷◌, ◌++◌, map, length, slice_get, is_some, All, MatchOption, ⊤}
 use Rattle.std.specs.List.{list_all, list_any, find}
 use Rattle.std.specs.Option.{option_map_or, option_or}
 use lib.Pointwise.{pointwise}
@@ -65,11 +65,6 @@ abbrev pub known_after : List ℕ → Atom → Option (List ℕ)
 known_after known (atom.Call call) = if list_all (is_known known) call.inputs then known_after_outputs known call.outputs else None
 known_after known (atom.Fill slot e) = if is_known known e then Some (known ++ slot ∷ []) else None
 known_after known (atom.Test e) = if is_known known e then Some known else None
-
--- the known slots after the first k atoms
-abbrev pub known_at : List ℕ → List Atom → ℕ → Option (List ℕ)
-known_at known (a ∷ atoms) (suc k) = option_and_then (λ more. known_at more atoms k) (known_after known a)
-known_at known _ _ = Some known
 
 abbrev pub same_type : Option TypeId → Option TypeId → Bool
 same_type (Some s) (Some t) = nat_eq s.0 t.0
@@ -152,3 +147,7 @@ TakesInputs sig rule i (atom.Test e) = Unit {0}
 -- that is so in each rule of c
 abbrev pub HandsOn : Declarations → List Rule → ConId → ℕ → Type 0
 HandsOn sig rules c i = All (λ rule. rule.con ≡ c → All (TakesInputs sig rule i) rule.atoms) rules
+
+-- that is so in the rule with this number, if there is one
+abbrev pub HandsOnAt : Declarations → List Rule → ℕ → ℕ → Type 0
+HandsOnAt sig rules i number = MatchOption (slice_get rules number) ⊤ (λ rule. All (TakesInputs sig rule i) rule.atoms)

@@ -1,4 +1,6 @@
 pub mod Instances
+pub mod Laws
 pub mod Rulebooks
 pub mod Flow
-pub mod Tables
+pub mod Modes
+pub mod Numbers

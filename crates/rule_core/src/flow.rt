@@ -3,12 +3,13 @@ ghost use Rattle.std.specs.Prelude.{◌≡◌, ◌+◌, ◌<◌, ◌≤◌, ◌^
 ghost use Rattle.std.specs.List.{list_all};
 ghost use Rattle.std.specs.Option.{option_map_or};
 ghost use lib.Pointwise.{pointwise};
-ghost use Rattle.sig_core.specs.Signatures.{kinds_of, plain_sorts, inputs_of, outputs_of, input_slots, output_slots, term_type};
+ghost use Rattle.sig_core.specs.Signatures.{kinds_of, plain_sorts, input_slots, output_slots, term_type};
 ghost use Rattle.expr_core.specs.Expressions.{node_count};
 ghost use Rattle.rule_core.specs.Instances.{slot_sorts};
 ghost use Rattle.expr_core.specs.declared.expr.Expr.{out-Expr};
 ghost use Rattle.sig_core.specs.Lists.{numbers_from};
 ghost use Rattle.rule_core.specs.Flow.{bare_slot, known_after_output, is_in, is_known, has_sort, type_at, same_type, fits_call, fits, known_after, known_after_outputs, unknown_in, existential_slots, end_fault, fault_from, flow_fault};
+ghost use Rattle.rule_core.specs.Modes.{sort_in_mode, sorts_of};
 ghost use Rattle.rule_core.specs.Rulebooks.{IsSmall, HasSmallParts, IsRuleOf};
 
 use crate::rule::{Atom, Call, Rule, Var, Who};
@@ -24,7 +25,7 @@ type Sorts = Items<Sort>;
 /// Reason 3: an existential isn't filled. Reason 4: a relation, child, slot, number of arguments, type or sort of an
 /// atom doesn't fit.
 #[derive(Clone, Copy, Debug, PartialEq, Eq, Drop, Error)]
-#[error("reason {reason} at atom {atom} and slot {slot}")]
+#[error("the rule fails data flow")]
 pub struct FlowFault {
     pub reason: u8,
     /// the number of the atom, for reasons 2 and 3 that of all atoms
@@ -33,10 +34,17 @@ pub struct FlowFault {
     pub slot: u8,
 }
 
+/// Which parameters of a relation.
+#[derive(Clone, Copy, Debug)]
+pub(crate) enum Mode {
+    Input,
+    Output,
+}
+
 /// Why a rule was not added.
 #[derive(Clone, Copy, Debug, PartialEq, Eq, Drop, Error)]
 pub enum AddError {
-    #[error("the rule fails data flow: {0}")]
+    #[error("the rule fails data flow")]
     Flow(FlowFault),
     #[error("out of memory")]
     Memory,
@@ -89,7 +97,7 @@ fn fault_at_atom(reason: u8, atom: u32) -> FlowFault
 }
 
 /// The parameters of a relation; none of one that the signature doesn't know.
-pub(crate) fn params_of<'s>(signature: &'s Signature, relation: RelId) -> &'s [Param]
+pub fn params_of<'s>(signature: &'s Signature, relation: RelId) -> &'s [Param]
     ensures { map (λ p. p.kind) result.now ≡ kinds_of signature.now relation }
 {
     if relation.0 < signature.relations() {
@@ -123,7 +131,8 @@ fn put_plain_sorts(params: &[Param], sorts: &mut Sorts) -> Result<(), AllocError
     Ok(())
 }
 
-fn input_slots(alloc: Global, params: &[Param]) -> Result<Bytes, AllocError>
+/// The slots of a relation's inputs, in order of its parameters.
+pub fn input_slots(alloc: Global, params: &[Param]) -> Result<Bytes, AllocError>
     requires { length (plain_sorts (map (λ p. p.kind) params.now)) ≤ 64 }
     ensures { IfOk result (λ slots. slots ≡ input_slots (map (λ p. p.kind) params.now)) }
 {
@@ -155,6 +164,7 @@ fn fits(signature: &Signature, rule: &Rule, scope: &[Sort], known: &[u8], atom: 
     }
 }
 
+#[tactic(auto, using(crate::proofs::Arguments::mode_sorts))]
 fn fits_call(signature: &Signature, con: ConId, scope: &[Sort], call: &Call) -> bool
     requires con { con.0 < length signature.now.constructors }
     requires inputs { All IsSmall call.now.inputs }
@@ -163,8 +173,8 @@ fn fits_call(signature: &Signature, con: ConId, scope: &[Sort], call: &Call) -> 
 {
     let params = params_of(signature, call.relation);
     same_type(term_type(params), type_at(signature, con, call.who))
-        && inputs_fit(scope, call.inputs.as_slice(), params)
-        && outputs_fit(scope, call.outputs.as_slice(), params)
+        && arguments_fit(scope, call.inputs.as_slice(), params, Mode::Input)
+        && arguments_fit(scope, call.outputs.as_slice(), params, Mode::Output)
 }
 
 fn same_type(left: Option<TypeId>, right: Option<TypeId>) -> bool
@@ -218,13 +228,14 @@ fn has_sort_of(scope: &[Sort], expr: &Expr, slot: u8) -> bool
     }
 }
 
-fn inputs_fit(scope: &[Sort], inputs: &[Expr], params: &[Param]) -> bool
-    requires { All IsSmall inputs.now }
-    ensures { result ≡ pointwise (has_sort scope.now) inputs.now (inputs_of (map (λ p. p.kind) params.now) (plain_sorts (map (λ p. p.kind) params.now))) }
+/// Whether these are as many as the parameters of the mode, and of their sorts.
+fn arguments_fit(scope: &[Sort], arguments: &[Expr], params: &[Param], mode: Mode) -> bool
+    requires { All IsSmall arguments.now }
+    ensures { result ≡ pointwise (has_sort scope.now) arguments.now (sorts_of mode (map (λ p. p.kind) params.now)) }
 {
-    let mut rest = inputs;
+    let mut rest = arguments;
     for param in params {
-        let Kind::Input(sort) = param.kind else {
+        let Some(sort) = sort_in_mode(mode, param.kind) else {
             continue;
         };
         let Some((expr, others)) = rest.split_first() else {
@@ -238,28 +249,19 @@ fn inputs_fit(scope: &[Sort], inputs: &[Expr], params: &[Param]) -> bool
     rest.is_empty()
 }
 
-fn outputs_fit(scope: &[Sort], outputs: &[Expr], params: &[Param]) -> bool
-    requires { All IsSmall outputs.now }
-    ensures { result ≡ pointwise (has_sort scope.now) outputs.now (outputs_of (map (λ p. p.kind) params.now) (plain_sorts (map (λ p. p.kind) params.now))) }
+/// The sort of a parameter of the mode.
+fn sort_in_mode(mode: Mode, kind: Kind) -> Option<Sort>
+    ensures { result ≡ sort_in_mode mode kind }
 {
-    let mut rest = outputs;
-    for param in params {
-        let Kind::Output(sort) = param.kind else {
-            continue;
-        };
-        let Some((expr, others)) = rest.split_first() else {
-            return false;
-        };
-        if !has_sort(scope, expr, sort) {
-            return false;
-        }
-        rest = others;
+    match (mode, kind) {
+        (Mode::Input, Kind::Input(sort)) | (Mode::Output, Kind::Output(sort)) => Some(sort),
+        _ => None,
     }
-    rest.is_empty()
 }
 
+/// Whether only known slots stand in the expression.
 #[tactic(auto, using(crate::proofs::Equations::expr_equations))]
-fn is_known(known: &[u8], expr: &Expr) -> bool
+pub fn is_known(known: &[u8], expr: &Expr) -> bool
     ensures { result ≡ is_known known.now expr.now }
 {
     match expr {
@@ -287,8 +289,9 @@ fn are_known(known: &[u8], exprs: &[Expr]) -> bool
     true
 }
 
-/// Adds what the atom makes known, if it uses known variables alone.
-fn learn(known: &mut Bytes, atom: &Atom) -> Result<bool, AllocError>
+/// Adds the slots that the atom makes known, if it uses known ones alone; else answers false, with some of its outputs
+/// perhaps added.
+pub fn learn(known: &mut Bytes, atom: &Atom) -> Result<bool, AllocError>
     ensures { IfOk result (λ passes. (if passes then Some known.new else None) ≡ known_after known.old atom.now) }
 {
     match atom {

@@ -3,10 +3,12 @@
 
 mod flow;
 mod handing;
+mod laws;
+mod numbers;
 mod rule;
 mod rulebook;
-mod tables;
 
-pub use flow::{AddError, FlowFault};
+pub use flow::{AddError, FlowFault, input_slots, is_known, learn, params_of};
+pub use laws::flow_laws;
 pub use rule::{Atom, Atoms, Call, Names, Rule, Var, Vars, Who};
 pub use rulebook::Rulebook;

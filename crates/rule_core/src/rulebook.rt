@@ -1,27 +1,24 @@
 ghost use Rattle.std.specs.Prelude.{◌≡◌, ◌<◌, ◌≤◌, ◌++◌, [], ◌∷◌, ◌↔◌, IsTrue, None, length, slice_get, IfErr, OnOk, OnErr};
 ghost use Rattle.std.specs.Option.{option_copied, option_and_then};
-ghost use Rattle.rule_core.specs.Flow.{flow_fault, IsDetermined, HandsOn};
+ghost use Rattle.rule_core.specs.Flow.{flow_fault, IsDetermined, HandsOn, HandsOnAt};
 ghost use Rattle.rule_core.specs.Rulebooks.{rules_for, rules_of, IsRuleOf, IsDue};
 
 use crate::flow::{AddError, flow_fault};
 use crate::handing::rule_hands_on;
+use crate::numbers::Numbers;
 use crate::rule::Rule;
-use crate::tables::{Table, list_at, push_both};
-use indexmap::IndexMap;
 use items::Items;
 use sig_core::{ConId, RelId, Signature};
 use std::alloc::Global;
 use std::marker::Model;
+use tables::list_at;
 
 /// The rules of a file in order of adding. Each has passed data flow.
 #[derive(Debug, Drop)]
 pub struct Rulebook {
     alloc: Global,
     rules: Items<Rule>,
-    /// the numbers of the rules of each relation and constructor
-    pairs: Table<(u16, u16)>,
-    /// the numbers of the rules of each relation
-    relations: Table<u16>,
+    numbers: Numbers,
 }
 
 impl Model for Rulebook {
@@ -29,7 +26,7 @@ impl Model for Rulebook {
     ghost use Rattle.rule_core.specs.declared.rule.Rule.{Rule};
     ghost use Rattle.std.specs.Coded.{codes};
     ghost use Rattle.expr_core.specs.contracts.expr.Expr as expr;
-    ghost use Rattle.rule_core.specs.Tables.{HaveNumbers};
+    ghost use Rattle.rule_core.specs.Numbers.{HaveNumbers};
 
     ghost Value = { List Rule };
 
@@ -37,7 +34,7 @@ impl Model for Rulebook {
 
     ghost view = { λ b. b.rules };
 
-    ghost invariant = { λ b. (length b.rules ≤ 16384) × HaveNumbers b.pairs b.relations b.rules };
+    ghost invariant = { λ b. (length b.rules ≤ 16384) × HaveNumbers b.numbers b.rules };
 }
 
 impl Rulebook {
@@ -47,8 +44,7 @@ impl Rulebook {
         Rulebook {
             alloc,
             rules: Items::new(alloc),
-            pairs: IndexMap::new(alloc),
-            relations: IndexMap::new(alloc),
+            numbers: Numbers::new(alloc),
         }
     }
 
@@ -73,18 +69,11 @@ impl Rulebook {
         if let Some(fault) = flow_fault(self.alloc, signature, &rule)? {
             return Err(AddError::Flow(fault));
         }
-        let pair = (rule.relation.0, rule.con.0);
-        let number = self.rules.len() as u32;
+        let (relation, con) = (rule.relation, rule.con);
+        let number = self.rules.len();
         self.rules.push(rule)?;
-        if push_both(
-            self.alloc,
-            &mut self.pairs,
-            &mut self.relations,
-            pair,
-            number,
-        )
-        .is_err()
-        {
+        let added = self.numbers.add(self.alloc, relation, con, number);
+        if added.is_err() {
             self.rules.pop();
             return Err(AddError::Memory);
         }
@@ -95,29 +84,29 @@ impl Rulebook {
     pub fn count(&self, relation: RelId, con: ConId) -> u32
         ensures { result ≡ length (rules_for self.now relation con) }
     {
-        list_at(&self.pairs, &(relation.0, con.0)).len() as u32
+        list_at(&self.numbers.pairs, &(relation.0, con.0)).len() as u32
     }
 
     /// The rule with this number among those that the relation has for the constructor, from 0.
     pub fn rule(&self, relation: RelId, con: ConId, k: u32) -> Option<&Rule>
         ensures { option_copied result ≡ slice_get (rules_for self.now relation con) k }
     {
-        self.numbered(list_at(&self.pairs, &(relation.0, con.0)), k)
+        self.numbered(list_at(&self.numbers.pairs, &(relation.0, con.0)), k)
     }
 
     /// The rule with this number among all rules of the relation, from 0.
     pub fn of_relation(&self, relation: RelId, k: u32) -> Option<&Rule>
         ensures { option_copied result ≡ slice_get (rules_of self.now relation) k }
     {
-        self.numbered(list_at(&self.relations, &relation.0), k)
+        self.numbered(list_at(&self.numbers.relations, &relation.0), k)
     }
 
     /// The rule whose number stands at this place of the list.
-    fn numbered(&self, numbers: &[u32], at: u32) -> Option<&Rule>
+    fn numbered(&self, numbers: &[usize], at: u32) -> Option<&Rule>
         ensures { option_copied result ≡ option_and_then (slice_get self.now) (slice_get numbers.now at) }
     {
         let number = *items::at(numbers, at as usize)?;
-        items::at(self.rules.as_slice(), number as usize)
+        items::at(self.rules.as_slice(), number)
     }
 
     /// Whether the constructor hands on at the child: in each of its rules, each call on the child and each call on
@@ -125,11 +114,21 @@ impl Rulebook {
     pub fn hands_on(&self, signature: &Signature, con: ConId, i: usize) -> bool
         ensures { IsTrue result ↔ HandsOn signature.now self.now con i }
     {
-        for rule in self.rules.as_slice() {
-            if rule.con == con && !rule_hands_on(signature, rule, i) {
+        for number in list_at(&self.numbers.constructors, &con.0) {
+            if !self.hands_on_by(signature, *number, i) {
                 return false;
             }
         }
         true
+    }
+
+    /// Whether the rule with this number, if there is one, hands on at the child.
+    fn hands_on_by(&self, signature: &Signature, number: usize, child: usize) -> bool
+        ensures { IsTrue result ↔ HandsOnAt signature.now self.now child number }
+    {
+        match items::at(self.rules.as_slice(), number) {
+            Some(rule) => rule_hands_on(signature, rule, child),
+            None => true,
+        }
     }
 }

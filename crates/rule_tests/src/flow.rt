@@ -4,7 +4,8 @@ ghost use Rattle.rule_tests.specs.Examples.{example};
 
 use crate::language::example;
 use crate::rules::{
-    CHOICE, GIVES, MAPS, PLUS, alone, call, one, ones, pair, rule, slot, variables,
+    CHOICE, GIVES, MAPS, PLUS, alone, call, is_one, one, ones, pair, rule, slot, successor,
+    variables,
 };
 use expr_core::Expr;
 use rule_core::{AddError, Atom, Atoms, FlowFault, Rule, Rulebook, Who};
@@ -128,22 +129,48 @@ fn a_known_slot_is_not_filled_again(rt: HostRuntime) {
     assert_eq!(rt; filled_twice(rt.alloc()), fault(4, 1, 0));
 }
 
-/// A call whose input is the existential, before the atom that fills it.
+/// A call on the term itself whose input is the existential, before the atom that fills it.
 fn early(alloc: Global) -> Result<(), AddError> {
-    let on_child = call(alloc, MAPS, Who::Child(0), slot(2), slot(1))?;
-    both(alloc, on_child, one(2))
+    let on_itself = call(alloc, MAPS, Who::Own, slot(2), slot(1))?;
+    both(alloc, on_itself, one(2))
 }
 
 /// The same call after that atom.
 fn in_time(alloc: Global) -> Result<(), AddError> {
-    let on_child = call(alloc, MAPS, Who::Child(0), slot(2), slot(1))?;
-    both(alloc, one(2), on_child)
+    let on_itself = call(alloc, MAPS, Who::Own, slot(2), slot(1))?;
+    both(alloc, one(2), on_itself)
 }
 
 #[test]
 fn a_variable_is_known_from_its_fill_on(rt: HostRuntime) {
     assert_eq!(rt; early(rt.alloc()), fault(1, 0, 0));
     assert_eq!(rt; in_time(rt.alloc()), Ok(()));
+}
+
+/// A test that the slot is 1, after the output is filled.
+fn tested(alloc: Global, number: u8) -> Result<(), AddError> {
+    let atoms = pair(alloc, one(1), is_one(alloc, number)?)?;
+    added(alloc, rule(alloc, MAPS, PLUS, variables(alloc, 1)?, atoms))
+}
+
+#[test]
+fn a_test_fills_no_variable(rt: HostRuntime) {
+    assert_eq!(rt; tested(rt.alloc(), 2), fault(1, 1, 0));
+    assert_eq!(rt; tested(rt.alloc(), 1), fault(3, 2, 2));
+}
+
+/// A call whose output argument is one more than the slot, and then the rule's output.
+fn compared(alloc: Global, number: u8) -> Result<(), AddError> {
+    let further = successor(alloc, number)?;
+    let on_child = call(alloc, MAPS, Who::Child(0), slot(0), further)?;
+    let atoms = pair(alloc, on_child, one(1))?;
+    added(alloc, rule(alloc, MAPS, PLUS, variables(alloc, 0)?, atoms))
+}
+
+#[test]
+fn an_output_that_is_no_variable_is_compared(rt: HostRuntime) {
+    assert_eq!(rt; compared(rt.alloc(), 0), Ok(()));
+    assert_eq!(rt; compared(rt.alloc(), 1), fault(1, 0, 0));
 }
 
 fn no_atoms(alloc: Global) -> Result<(), AddError> {

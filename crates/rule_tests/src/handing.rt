@@ -4,7 +4,9 @@ ghost use Rattle.rule_core.specs.Rulebooks.{HasSmallParts, IsRuleOf};
 ghost use Rattle.rule_tests.specs.Examples.{example};
 
 use crate::language::example;
-use crate::rules::{GIVES, MAPS, PLUS, alone, call, pair, rule, slot, successor, variables};
+use crate::rules::{
+    CHOICE, GIVES, MAPS, PLUS, alone, call, pair, rule, slot, successor, variables,
+};
 use expr_core::Expr;
 use rule_core::{AddError, Atom, Rule, Rulebook, Who};
 use sig_core::{RelId, Value};
@@ -94,6 +96,21 @@ fn both_children(alloc: Global) -> Result<(bool, bool), AddError> {
     let right = call(alloc, MAPS, Who::Child(1), slot(0), slot(1))?;
     let atoms = pair(alloc, left, right)?;
     handed_alone(alloc, rule(alloc, MAPS, PLUS, variables(alloc, 0)?, atoms))
+}
+
+/// Whether the choice hands on at its second child, where the sum alone has a rule.
+fn without_rules(alloc: Global) -> Result<bool, AddError> {
+    let Ok(signature) = example(alloc) else {
+        return Err(AddError::Memory);
+    };
+    let mut book = Rulebook::new(alloc);
+    book.add(&signature, on_child(alloc, successor(alloc, 0)?)?)?;
+    Ok(book.hands_on(&signature, CHOICE, 1))
+}
+
+#[test]
+fn a_constructor_without_rules_hands_on(rt: HostRuntime) {
+    assert_eq!(rt; without_rules(rt.alloc()), Ok(true));
 }
 
 #[test]

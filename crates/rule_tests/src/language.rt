@@ -1,27 +1,20 @@
 ghost use Rattle.std.specs.Prelude.{◌≡◌, IfOk};
 ghost use Rattle.rule_tests.specs.Examples.{the_type, gives, maps, two_types, two_constructors, example};
 
-use sig_core::{Bytes, Kind, Param, Params, Relation, SigError, Signature, Sort, TypeId};
+use sig_core::{Kind, Param, Params, Relation, SigError, Signature, Sort, TypeId, bytes_of};
 use std::alloc::{AllocError, Global};
 
-const TERM: TypeId = TypeId(0);
+/// The type of terms.
+pub const TERM: TypeId = TypeId(0);
 
 /// The type of conditions.
 const CONDITION: TypeId = TypeId(1);
 
-pub fn bytes(alloc: Global, text: &[u8]) -> Result<Bytes, AllocError>
-    ensures { IfOk result (λ bytes. bytes ≡ text.now) }
-{
-    let mut bytes = Bytes::new(alloc);
-    bytes.append(text)?;
-    Ok(bytes)
-}
-
-fn param(alloc: Global, name: &[u8], kind: Kind) -> Result<Param, AllocError>
+pub fn param(alloc: Global, name: &[u8], kind: Kind) -> Result<Param, AllocError>
     ensures { IfOk result (λ param. param ≡ record { name = name.now; kind = kind }) }
 {
     Ok(Param {
-        name: bytes(alloc, name)?,
+        name: bytes_of(alloc, name)?,
         kind,
     })
 }
@@ -33,7 +26,7 @@ fn gives(alloc: Global) -> Result<Relation, AllocError>
     params.push(param(alloc, b"t", Kind::Term(TERM))?)?;
     params.push(param(alloc, b"r", Kind::Output(Sort::Int))?)?;
     Ok(Relation {
-        name: bytes(alloc, b"U")?,
+        name: bytes_of(alloc, b"U")?,
         params,
     })
 }
@@ -46,7 +39,7 @@ fn maps(alloc: Global) -> Result<Relation, AllocError>
     params.push(param(alloc, b"x", Kind::Input(Sort::Int))?)?;
     params.push(param(alloc, b"r", Kind::Output(Sort::Int))?)?;
     Ok(Relation {
-        name: bytes(alloc, b"S")?,
+        name: bytes_of(alloc, b"S")?,
         params,
     })
 }
@@ -60,7 +53,7 @@ fn two_types(alloc: Global) -> Result<Signature, SigError>
     Ok(signature)
 }
 
-fn two_constructors(alloc: Global) -> Result<Signature, SigError>
+pub fn two_constructors(alloc: Global) -> Result<Signature, SigError>
     ensures { IfOk result (λ signature. signature ≡ two_constructors) }
 {
     let mut signature = two_types(alloc)?;

@@ -11,3 +11,5 @@ mod handing;
 mod language;
 #[cfg(test)]
 mod rules;
+#[cfg(test)]
+mod wide;

@@ -3,10 +3,9 @@ ghost use Rattle.expr_core.specs.Expressions.{node_count};
 ghost use Rattle.rule_core.specs.Rulebooks.{HasSmallParts, IsRuleOf};
 ghost use Rattle.rule_tests.specs.Examples.{example};
 
-use crate::language::bytes;
 use expr_core::{Expr, Kids, Op};
 use rule_core::{Atom, Atoms, Call, Names, Rule, Var, Vars, Who};
-use sig_core::{ConId, RelId, Sort, Value};
+use sig_core::{ConId, RelId, Sort, Value, bytes_of};
 use std::alloc::{AllocError, Global};
 
 /// The relation of a term and its output, in slot 0.
@@ -29,7 +28,7 @@ pub fn variables(alloc: Global, count: u8) -> Result<Vars, AllocError>
     let mut vars = Vars::new(alloc);
     for number in 0..count {
         vars.push(Var {
-            name: bytes(alloc, &[b'v', b'0' + number])?,
+            name: bytes_of(alloc, &[b'v', b'0' + number])?,
             sort: Sort::Int,
         })?;
     }
@@ -82,6 +81,16 @@ pub fn one(slot: u8) -> Atom
     ensures { HasSmallParts result }
 {
     Atom::Fill(slot, Expr::Lit(Value::Int(1)))
+}
+
+/// The test that the slot is 1.
+pub fn is_one(alloc: Global, number: u8) -> Result<Atom, AllocError>
+    ensures { IfOk result HasSmallParts }
+{
+    let mut kids = Kids::new(alloc);
+    kids.push(Expr::Slot(number))?;
+    kids.push(Expr::Lit(Value::Int(1)))?;
+    Ok(Atom::Test(Expr::Apply(Op::Equal, kids)))
 }
 
 /// Each slot from 1 on below the end is 1.

@@ -2,7 +2,8 @@ use Rattle.std.proofs.Common.{◌≡◌, ◌<◌, None, nat_eq, length, sym, ◌
 use Rattle.std.proofs.lemmas.List.{length_push}
 use Rattle.sig_core.proofs.SignatureLemmas.{is_none}
 use Rattle.rule_core.specs.Flow.{flow_fault}
-use Rattle.rule_core.specs.Tables.{Gains, same_pair}
+use Rattle.tables.specs.Tables.{Gains}
+use Rattle.rule_core.specs.Numbers.{same_pair}
 use Rattle.rule_core.proofs.Flowing.{flow_determines}
 use Rattle.rule_core.proofs.Numbered.{HaveNumbers-push}
 use Rattle.rule_core.proofs.rulebook.Rulebook.add.Goals as goal
@@ -15,12 +16,14 @@ returns-clause-determined c =
 pub invariant_of-self-else-is_err : goal.invariant_of-self-else-is_err
 invariant_of-self-else-is_err c =
     let inside = c.self.inside in
+    let numbers = c.add-added.new.self in
     let rule = c.args.rule in
     let room : length inside.rules < 16384 = rw c.self.view_is c.requires.room in
     let longer = length_push inside.rules rule in
-    let pairs : Gains same_pair inside.pairs c.push_both.new.pairs (rule.relation.0, rule.con.0) (length inside.rules) = search rules in
-    let relations : Gains nat_eq inside.relations c.push_both.new.relations rule.relation.0 (length inside.rules) = search rules in
+    let pairs : Gains same_pair inside.numbers.pairs numbers.pairs (rule.relation.0, rule.con.0) (length inside.rules) = search rules in
+    let relations : Gains nat_eq inside.numbers.relations numbers.relations rule.relation.0 (length inside.rules) = search rules in
+    let constructors : Gains nat_eq inside.numbers.constructors numbers.constructors rule.con.0 (length inside.rules) = search rules in
     rw c.in_ok-push.ensures.ok (
       omega (arith, room, longer),
-      HaveNumbers-push inside.pairs c.push_both.new.pairs inside.relations c.push_both.new.relations inside.rules c.self.invariant.1 rule pairs relations,
+      HaveNumbers-push inside.numbers numbers inside.rules c.self.invariant.1 rule pairs relations constructors,
     )

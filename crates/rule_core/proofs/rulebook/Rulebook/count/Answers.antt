@@ -1,6 +1,6 @@
 use Rattle.std.proofs.Common.{length, ap, ◌∙◌, arith}
-use Rattle.rule_core.specs.Tables.{is_for}
-use Rattle.rule_core.proofs.Places.{length-places, places_few}
+use Rattle.rule_core.specs.Numbers.{is_for}
+use Rattle.tables.proofs.Places.{length-places, places_few}
 use Rattle.rule_core.proofs.rulebook.Rulebook.count.Goals as goal
 
 pub overflow_cast-result : goal.overflow_cast-result

@@ -1,7 +1,7 @@
 use Rattle.std.proofs.Common.{[], slice_get, sym, ap, ◌∙◌}
 use Rattle.std.specs.Option.{option_and_then}
-use Rattle.rule_core.specs.Tables.{is_of}
-use Rattle.rule_core.proofs.Places.{nth-places}
+use Rattle.rule_core.specs.Numbers.{is_of}
+use Rattle.tables.proofs.Places.{nth-places}
 use Rattle.rule_core.proofs.rulebook.Rulebook.of_relation.Goals as goal
 
 pub returns : goal.returns
