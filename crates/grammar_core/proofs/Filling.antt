@@ -1,5 +1,5 @@
 -- The whole grammar, constructor by constructor.
-use Rattle.std.proofs.Common.{◌≡◌, ◌≢◌, ℕ, zero, suc, ◌+◌, ◌<◌, ◌≤◌, Bool, true, false, not, cond, nat_eq, List, [], ◌∷◌, ◌++◌, length, map, get_or, set, replicate, slice_get, take, Some, All, inl, inr, sym, refl, ap, ap₂, subst, ◌∙◌, arith}
+use Rattle.std.proofs.Common.{◌≡◌, ◌≢◌, ℕ, zero, suc, ◌+◌, ◌<◌, ◌≤◌, Bool, true, false, not, cond, nat_eq, List, [], ◌∷◌, ◌++◌, length, map, get_or, set, replicate, slice_get, slice_index_or, take, Some, All, inl, inr, sym, refl, ap, ap₂, subst, ◌∙◌, arith}
 use Rattle.std.proofs.lemmas.Bool.{cases_eq, cases_lt}
 use Rattle.std.proofs.lemmas.Bool.Decides.{nat_tests}
 use Rattle.std.proofs.lemmas.List.{append-nil, get_or-map, map_push, get_or-set_same, get_or-set_other, length-map, length-set, length-take-le, same_lists, take_all, take_more}
@@ -16,11 +16,14 @@ use Rattle.grammar_core.specs.declared.ids.NtId.{NtId}
 use Rattle.grammar_core.specs.declared.production.Production.{Production}
 use Rattle.grammar_core.specs.Grammars.{Nonterminal, IsKnown, Reaches, itself, blank, names_of, nonterminal_at, production_count, productions_of, start}
 use Rattle.grammar_core.specs.Kept.{IsKept}
-use Rattle.grammar_core.specs.Marks.{IsClosed, KeepsMarks, MarksReached}
+use Rattle.grammar_core.specs.declared.marks.Marks.{Marks}
+use Rattle.grammar_core.specs.Limits.{KeepsLimits}
+use Rattle.grammar_core.specs.Marks.{AreMarks, IsClosed, KeepsMarks, MarksReached, start_and}
 use Rattle.grammar_core.specs.Refusals.{with_production}
 use Rattle.grammar_core.specs.WellFormed.{AllKnown, IsGrammar}
 use Rattle.grammar_core.specs.Whole.{nonterminal_for, nonterminal_over, productions_from, types_in_order, whole, whole_over}
 use Rattle.grammar_core.proofs.Keeping.{IsGrammar-with_production, one_more}
+use Rattle.grammar_core.proofs.Marking.{start_reached}
 use Rattle.grammar_core.proofs.Numbering.{declared_at, is_other, is_same, length-numbers, length-types, number_at, number_of, others, place_within, type_at, typed}
 
 -- the production of the constructor with this number
@@ -148,9 +151,7 @@ module _ (sig : Declarations) (first : TypeId) (declared : first.0 < length sig.
 
   none_yet : IsGrammar (whole_over sig first [])
   none_yet = record {
-    few = omega (arith, length-whole sig first declared [], fine.few_types);
-    few_productions = omega (arith, no_production (types_in_order sig first));
-    distinct = distinct_names;
+    size = omega (arith, length-whole sig first declared [], fine.few_types);
     known = all_known (whole_over sig first []) (types_in_order sig first);
   }
 
@@ -158,7 +159,7 @@ module _ (sig : Declarations) (first : TypeId) (declared : first.0 < length sig.
   no_constructor = record { name = []; owner = none; args = [] }
 
   -- after k constructors there are k productions
-  filled : (k : ℕ) → k ≤ length sig.constructors → IsGrammar (whole_over sig first (take k sig.constructors)) × (production_count (whole_over sig first (take k sig.constructors)) ≡ k)
+  pub filled : (k : ℕ) → k ≤ length sig.constructors → IsGrammar (whole_over sig first (take k sig.constructors)) × (production_count (whole_over sig first (take k sig.constructors)) ≡ k)
   filled zero h = (none_yet, no_production (types_in_order sig first))
   filled (suc k) h =
       let before = filled k (omega arith) in
@@ -171,8 +172,7 @@ module _ (sig : Declarations) (first : TypeId) (declared : first.0 < length sig.
       let known : IsKnown g n = number_known sig first c.owner (take k sig.constructors) declared sound.owner in
       let args : All (IsKnown g) p.args = All-map (IsKnown g) (nonterminal_for first) c.args (All-weaker (IsDeclared (length sig.types)) (λ t. IsKnown g (nonterminal_for first t)) (λ t u. number_known sig first t (take k sig.constructors) declared u) c.args sound.args) in
       let next : whole_over sig first (take (suc k) sig.constructors) ≡ with_production g n p = ap (λ i. whole_over sig first (take i sig.constructors)) (let sums : suc k ≡ k + 1 = omega arith in sums) ∙ fill_more sig first declared fine k c at in
-      let few : production_count g < 4096 = omega (arith, before.1, fine.few_constructors) in
-      (subst IsGrammar (sym next) (IsGrammar-with_production g n known p args few before.0), ap production_count next ∙ one_more g n known p ∙ ap (λ i. i + 1) before.1 ∙ (let sums : k + 1 ≡ suc k = omega arith in sums))
+      (subst IsGrammar (sym next) (IsGrammar-with_production g n known p args before.0), ap production_count next ∙ one_more g n known p ∙ ap (λ i. i + 1) before.1 ∙ (let sums : k + 1 ≡ suc k = omega arith in sums))
 
   pub IsGrammar-whole : IsGrammar (whole sig first)
   IsGrammar-whole = subst (λ cs. IsGrammar (whole_over sig first cs)) (take_all (length sig.constructors) sig.constructors (omega arith)) (filled (length sig.constructors) (omega arith)).0
@@ -180,25 +180,27 @@ module _ (sig : Declarations) (first : TypeId) (declared : first.0 < length sig.
   pub production_count-whole : production_count (whole sig first) ≡ length sig.constructors
   production_count-whole = ap (λ cs. production_count (whole_over sig first cs)) (sym (take_all (length sig.constructors) sig.constructors (omega arith))) ∙ (filled (length sig.constructors) (omega arith)).1
 
-unset : (n j : ℕ) → get_or (replicate n false) j false ≡ false
-unset zero j = refl
-unset (suc n) zero = refl
-unset (suc n) (suc j) = unset n j
-
--- the marks that a grammar begins with
-start_reached : (g : List Nonterminal) (n i : ℕ) → get_or (true ∷ replicate n false) i false ≡ true → Reaches g start (record { 0 = i })
-start_reached g n zero on = itself
-start_reached g n (suc i) on = absurd (let off = unset n i in cc)
-
-pub IsKept-whole : (sig : Declarations) (first : TypeId) → first.0 < length sig.types → IsWellFormed sig → (n count : ℕ) (marks : List Bool) → count ≡ length sig.constructors → length marks ≡ length (whole sig first)
-    → KeepsMarks (true ∷ replicate n false) marks → (MarksReached (whole sig first) (true ∷ replicate n false) → MarksReached (whole sig first) marks) → IsClosed (whole sig first) marks → IsKept (whole sig first) count marks
-IsKept-whole sig first declared fine n count marks is size kept reached closed = record {
+pub IsKept-whole : (sig : Declarations) (first : TypeId) → first.0 < length sig.types → IsWellFormed sig → (n count : ℕ) (marks : Marks) → count ≡ length sig.constructors → AreMarks marks → length marks.flags ≡ length (whole sig first)
+    → KeepsMarks (start_and n).flags marks.flags → (MarksReached (whole sig first) (start_and n).flags → MarksReached (whole sig first) marks.flags) → IsClosed (whole sig first) marks.flags → IsKept (whole sig first) count marks
+IsKept-whole sig first declared fine n count marks is marked size kept reached closed = record {
   fine = IsGrammar-whole sig first declared fine;
   counted = is ∙ sym (production_count-whole sig first declared fine);
+  marked = marked;
   size = size;
   first = λ h. kept start refl;
-  reached = reached (λ k on. start_reached (whole sig first) n k.0 on);
+  reached = reached (start_reached (whole sig first) n);
   closed = closed;
+}
+
+names_stay : (sig : Declarations) (first : TypeId) (cs : List Constructor) (ts : List TypeId) → names_of (map (nonterminal_over sig first cs) ts) ≡ names_of (map (nonterminal_over sig first []) ts)
+names_stay sig first cs [] = refl
+names_stay sig first cs (t ∷ ts) = ap (λ names. slice_index_or sig.types t.0 [] ∷ names) (names_stay sig first cs ts)
+
+pub KeepsLimits-whole : (sig : Declarations) (first : TypeId) → first.0 < length sig.types → IsWellFormed sig → KeepsLimits (whole sig first)
+KeepsLimits-whole sig first declared fine = record {
+  few = omega (arith, length-whole sig first declared sig.constructors, fine.few_types);
+  few_productions = omega (arith, production_count-whole sig first declared fine, fine.few_constructors);
+  distinct = subst AreDistinct (sym (names_stay sig first sig.constructors (types_in_order sig first))) (distinct_names sig first declared fine);
 }
 
 more_types : (f t : ℕ) (ns : List ℕ) (b : Bool) → not (nat_eq t f) ≡ b → others f (ns ++ t ∷ []) ≡ others f ns ++ cond b (t ∷ []) []

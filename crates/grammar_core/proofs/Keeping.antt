@@ -1,8 +1,8 @@
 -- What a grammar keeps, after an item is added.
-use Rattle.std.proofs.Common.{◌≡◌, ℕ, ◌+◌, ◌<◌, ◌≤◌, Bool, true, false, nat_eq, eq-eqb, List, [], ◌∷◌, ◌++◌, length, get_or, set, All, Contains, None, Option, MatchOption, Some, ◌⊎◌, inl, inr, sym, ap, ap₂, subst, ◌∙◌, arith}
+use Rattle.std.proofs.Common.{◌≡◌, ℕ, ◌+◌, ◌<◌, ◌≤◌, Bool, true, false, nat_eq, eq-eqb, List, [], ◌∷◌, ◌++◌, length, get_or, set, All, Contains, None, Option, MatchOption, Some, ◌⊎◌, inl, inr, sym, refl, ap, ap₂, subst, ◌∙◌, arith}
 use Rattle.std.proofs.lemmas.Bool.{cases_eq, cases_lt, eqb-true}
 use Rattle.std.proofs.lemmas.List.{get_or_append_left, get_or_push, get_or_past, get_or_read, get_or-set_same, get_or-set_other, get_or-map, length_push, length-set, map_push, map-set, set-get_or, same_from_push}
-use Rattle.std.proofs.lemmas.List.Elements.{All-nil, All-push, All-set, All-weaker, Contains-append_left}
+use Rattle.std.proofs.lemmas.List.Elements.{All-nil, All-push, All-set, All-weaker, Contains-append_left, Contains-get_or, Contains-push, Contains-push_cases}
 use Rattle.std.proofs.lemmas.List.Sums.{sum_by-set, sum_by_push}
 use Rattle.sig_core.specs.Names.{AreDistinct, place_of}
 use Rattle.sig_core.specs.declared.ids.TypeId.{TypeId}
@@ -11,10 +11,12 @@ use Rattle.grammar_core.specs.declared.ids.NtId.{NtId}
 use Rattle.grammar_core.specs.declared.production.Production.{Production}
 use Rattle.grammar_core.specs.Grammars.{Nonterminal, IsKnown, Leads, Reaches, itself, onward, blank, names_of, nonterminal_at, production_count, productions_of, start}
 use Rattle.grammar_core.specs.Kept.{IsKept}
-use Rattle.grammar_core.specs.Marks.{IsClosed, IsMarked, KeepsMarks, MarksReached}
+use Rattle.grammar_core.specs.declared.marks.Marks.{Marks}
+use Rattle.grammar_core.specs.Limits.{KeepsLimits}
+use Rattle.grammar_core.specs.Marks.{AreMarks, IsClosed, IsClosedBut, IsMarked, KeepsMarks, MarksReached, none, with_place}
 use Rattle.grammar_core.specs.Refusals.{with_nonterminal, with_production}
 use Rattle.grammar_core.specs.WellFormed.{AllKnown, IsGrammar}
-use Rattle.grammar_core.proofs.Marking.{marked_within}
+use Rattle.grammar_core.proofs.Marking.{AreMarks-none, AreMarks-with_place, marked_within, stays_marked}
 
 -- what one grammar leads to, another with these productions leads to
 Leads-more : (g h : List Nonterminal) (n m : NtId) → ((p : Production) → Contains (productions_of g n) p → Contains (productions_of h n) p) → Leads g n m → Leads h n m
@@ -44,9 +46,6 @@ productions-push g name owner m =
       ]
     ]
 
-stays_marked : (marks : List Bool) (b : Bool) (n : NtId) → IsMarked marks n → IsMarked (marks ++ b ∷ []) n
-stays_marked marks b n on = get_or_append_left marks (b ∷ []) false n.0 (marked_within marks n.0 on) ∙ on
-
 -- a mark is an old one, or the one that was put last
 mark_cases : (marks : List Bool) (b : Bool) (n : NtId) → IsMarked (marks ++ b ∷ []) n → IsMarked marks n ⊎ ((n.0 ≡ length marks) × (b ≡ true))
 mark_cases marks b n on =
@@ -57,38 +56,59 @@ mark_cases marks b n on =
           inr (last, sym (get_or_push marks b false n.0 (sym last)) ∙ on))
     ]
 
-pub IsKept-with_nonterminal : (g : List Nonterminal) (count : ℕ) (marks : List Bool) (name : List ℕ) (owner : TypeId) (b : Bool) → IsKept g count marks → place_of (names_of g) name ≡ None → length g < 256 → b ≡ nat_eq (length g) 0
-    → IsKept (with_nonterminal g name owner) count (marks ++ b ∷ [])
-IsKept-with_nonterminal g count marks name owner b kept fresh room is =
+pub KeepsLimits-none : KeepsLimits []
+KeepsLimits-none = record { few = omega arith; few_productions = omega arith; distinct = λ i j d h k. absurd (omega arith) }
+
+none_marked : (n : NtId) → IsMarked [] n → ⊥
+none_marked n on = let h : n.0 < 0 = marked_within [] n.0 on in omega arith
+
+-- a grammar without nonterminals keeps this
+pub IsKept-none : IsKept [] 0 none
+IsKept-none = record {
+  fine = record { size = omega arith; known = λ i d h. absurd (omega arith) };
+  counted = refl;
+  marked = AreMarks-none;
+  size = refl;
+  first = λ h. absurd (omega arith);
+  reached = λ n on. absurd (none_marked n on);
+  closed = λ n m on leads. absurd (none_marked n on);
+}
+
+pub KeepsLimits-with_nonterminal : (g : List Nonterminal) (name : List ℕ) (owner : TypeId) → place_of (names_of g) name ≡ None → length g < 256 → KeepsLimits g → KeepsLimits (with_nonterminal g name owner)
+KeepsLimits-with_nonterminal g name owner fresh room limits =
+    let added : Nonterminal = record { name = name; owner = owner; productions = [] } in record {
+      few = omega (arith, length_push g added);
+      few_productions = omega (arith, sum_by_push (λ (n : Nonterminal). length n.productions) g added, limits.few_productions);
+      distinct = subst AreDistinct (sym (map_push (λ (n : Nonterminal). n.name) g added)) (AreDistinct-push (names_of g) name fresh limits.distinct);
+    }
+
+pub IsKept-with_nonterminal : (g : List Nonterminal) (count : ℕ) (marks : Marks) (name : List ℕ) (owner : TypeId) (b : Bool) → IsKept g count marks → length g < 256 → b ≡ nat_eq (length g) 0
+    → IsKept (with_nonterminal g name owner) count (with_place marks b)
+IsKept-with_nonterminal g count marks name owner b kept room is =
     let added : Nonterminal = record { name = name; owner = owner; productions = [] } in
+    let flags = marks.flags in
     let longer : length (with_nonterminal g name owner) ≡ length g + 1 = length_push g added in record {
       fine = record {
-        few = omega (arith, longer);
-        few_productions = omega (arith, sum_by_push (λ (n : Nonterminal). length n.productions) g added, kept.fine.few_productions);
-        distinct = subst AreDistinct (sym (map_push (λ (n : Nonterminal). n.name) g added)) (AreDistinct-push (names_of g) name fresh kept.fine.distinct);
+        size = omega (arith, longer);
         known = All-push (λ n. All (λ p. All (IsKnown (with_nonterminal g name owner)) p.args) n.productions) g added (known_as g (with_nonterminal g name owner) g (omega (arith, longer)) kept.fine.known) (All-nil (λ p. All (IsKnown (with_nonterminal g name owner)) p.args));
       };
       counted = omega (arith, sum_by_push (λ (n : Nonterminal). length n.productions) g added, kept.counted);
-      size = omega (arith, longer, length_push marks b, kept.size);
+      marked = AreMarks-with_place marks b kept.marked (omega (arith, kept.size)) (λ e. omega (arith, kept.size, eqb-true (length g) 0 (sym is ∙ e)));
+      size = omega (arith, longer, length_push flags b, kept.size);
       first = λ h. elim (cases_eq (length g) 0) [
-        | inl e ↦ get_or_push marks b false 0 (omega (arith, kept.size)) ∙ is ∙ eq-eqb (length g) 0 e
-        | inr e ↦ stays_marked marks b start (kept.first (omega arith))
+        | inl e ↦ get_or_push flags b false 0 (omega (arith, kept.size)) ∙ is ∙ eq-eqb (length g) 0 e
+        | inr e ↦ stays_marked flags b start (kept.first (omega arith))
       ];
-      reached = λ n on. elim (mark_cases marks b n on) [
+      reached = λ n on. elim (mark_cases flags b n on) [
         | inl old ↦ Reaches-more (with_nonterminal g name owner) (λ k p. subst (λ ps. Contains ps p) (sym (productions-push g name owner k))) (kept.reached n old)
         | inr new ↦ subst (Reaches (with_nonterminal g name owner) start) (ap (λ k. record { 0 = k }) (let zeroth : 0 ≡ n.0 = omega (arith, new.0, kept.size, eqb-true (length g) 0 (sym is ∙ new.1)) in zeroth)) itself
       ];
       closed = λ n m on leads. (let before : Leads g n m = Leads-more (with_nonterminal g name owner) g n m (λ p. subst (λ ps. Contains ps p) (productions-push g name owner n)) leads in
-          elim (mark_cases marks b n on) [
-            | inl old ↦ stays_marked marks b m (kept.closed n m old before)
+          elim (mark_cases flags b n on) [
+            | inl old ↦ stays_marked flags b m (kept.closed n m old before)
             | inr new ↦ absurd (none_stands before.production (subst (λ ps. Contains ps before.production) (ap (λ (x : Nonterminal). x.productions) (get_or_past g n.0 blank (omega (arith, new.0, kept.size)))) before.stands))
           ]);
     }
-
--- the list before the last element was put
-pub popped : (r : Option Bool) (old new xs : List Bool) (b : Bool) → MatchOption r ((old ≡ []) × (new ≡ [])) (λ last. old ≡ new ++ last ∷ []) → old ≡ xs ++ b ∷ [] → new ≡ xs
-popped None old new xs b h e = absurd (let none : length (xs ++ b ∷ []) ≡ 0 = ap length (sym e ∙ h.0) in omega (arith, length_push xs b))
-popped (Some last) old new xs b h e = (same_from_push new xs last b (sym h ∙ e)).0
 
 -- one more production of a nonterminal
 module _ (g : List Nonterminal) (n : NtId) (known : IsKnown g n) (p : Production) where
@@ -119,23 +139,44 @@ module _ (g : List Nonterminal) (n : NtId) (known : IsKnown g n) (p : Production
   pub same_length : length (with_production g n p) ≡ length g
   same_length = length-set g n.0 (record (nonterminal_at g n) { productions = productions_of g n ++ p ∷ [] })
 
-  pub IsGrammar-with_production : All (IsKnown g) p.args → production_count g < 4096 → IsGrammar g → IsGrammar (with_production g n p)
-  IsGrammar-with_production args room fine =
+  pub IsGrammar-with_production : All (IsKnown g) p.args → IsGrammar g → IsGrammar (with_production g n p)
+  IsGrammar-with_production args fine =
       let h = with_production g n p in
       let as_long : length g ≤ length h = omega (arith, same_length) in
       let each : AllKnown h g = known_as g h g as_long fine.known in record {
-        few = omega (arith, same_length, fine.few);
-        few_productions = omega (arith, one_more);
-        distinct = subst AreDistinct (sym same_names) fine.distinct;
+        size = omega (arith, same_length, fine.size);
         known = All-set (λ x. All (λ q. All (IsKnown h) q.args) x.productions) g n.0 (record (nonterminal_at g n) { productions = productions_of g n ++ p ∷ [] })
             (All-push (λ q. All (IsKnown h) q.args) (productions_of g n) p (each n.0 blank known) (All-weaker (IsKnown g) (IsKnown h) (λ k l. omega arith) p.args args)) each;
       }
 
-  pub IsKept-with_production : (count : ℕ) (marks new : List Bool) → IsKept g count marks → All (IsKnown g) p.args → count < 4096 → length new ≡ length marks → KeepsMarks marks new
-      → (MarksReached (with_production g n p) marks → MarksReached (with_production g n p) new) → IsClosed (with_production g n p) new → IsKept (with_production g n p) (count + 1) new
-  IsKept-with_production count marks new kept args room size keeps reached closed = record {
-    fine = IsGrammar-with_production args (omega (arith, kept.counted)) kept.fine;
+  pub KeepsLimits-with_production : production_count g < 4096 → KeepsLimits g → KeepsLimits (with_production g n p)
+  KeepsLimits-with_production room limits = record {
+    few = omega (arith, same_length, limits.few);
+    few_productions = omega (arith, one_more);
+    distinct = subst AreDistinct (sym same_names) limits.distinct;
+  }
+
+  pub all_led : All (Leads (with_production g n p) n) p.args
+  all_led i d h = record { production = p; stands = subst (λ ps. Contains ps p) (sym productions-here) (Contains-push (productions_of g n) p); child = Contains-get_or p.args i d h }
+
+  pub closed_but : (flags : List Bool) → IsClosed g flags → IsClosedBut (with_production g n p) flags n p.args
+  closed_but flags closed k m on leads =
+      let q = leads.production in
+      elim (cases_eq k.0 n.0) [
+        | inl e ↦ (let same : k ≡ n = ap (λ i. record { 0 = i }) e in
+            elim (Contains-push_cases (productions_of g n) p q (subst (λ ps. Contains ps q) (ap (productions_of (with_production g n p)) same ∙ productions-here) leads.stands)) [
+              | inl old ↦ inl (closed k m on (record { production = q; stands = subst (λ x. Contains (productions_of g x) q) (sym same) old; child = leads.child }))
+              | inr new ↦ inr (same, subst (λ (x : Production). Contains x.args m) (sym new) leads.child)
+            ])
+        | inr e ↦ inl (closed k m on (Leads-more (with_production g n p) g k m (λ x. subst (λ ps. Contains ps x) (productions-elsewhere k e)) leads))
+      ]
+
+  pub IsKept-with_production : (count : ℕ) (marks new : Marks) → IsKept g count marks → All (IsKnown g) p.args → AreMarks new → length new.flags ≡ length marks.flags → KeepsMarks marks.flags new.flags
+      → (MarksReached (with_production g n p) marks.flags → MarksReached (with_production g n p) new.flags) → IsClosed (with_production g n p) new.flags → IsKept (with_production g n p) (count + 1) new
+  IsKept-with_production count marks new kept args marked size keeps reached closed = record {
+    fine = IsGrammar-with_production args kept.fine;
     counted = omega (arith, one_more, kept.counted);
+    marked = marked;
     size = omega (arith, same_length, kept.size, size);
     first = λ h. keeps start (kept.first (omega (arith, same_length)));
     reached = reached (λ m on. Reaches-more (with_production g n p) keeps_productions (kept.reached m on));
@@ -143,8 +184,8 @@ module _ (g : List Nonterminal) (n : NtId) (known : IsKnown g n) (p : Production
   }
 
 -- the marks tell what the start leads to
-pub marks_tell : (g : List Nonterminal) (count : ℕ) (marks : List Bool) → IsKept g count marks → 0 < length g → {n m : NtId} → Reaches g n m → n ≡ start → IsMarked marks m
-marks_tell g count marks kept some itself e = subst (IsMarked marks) (sym e) (kept.first some)
+pub marks_tell : (g : List Nonterminal) (count : ℕ) (marks : Marks) → IsKept g count marks → 0 < length g → {n m : NtId} → Reaches g n m → n ≡ start → IsMarked marks.flags m
+marks_tell g count marks kept some itself e = subst (IsMarked marks.flags) (sym e) (kept.first some)
 marks_tell g count marks kept some (onward {grammar} {n} {m} {k} path step) e = kept.closed m k (marks_tell g count marks kept some path e) step
 
 -- the nonterminal at n with another list of productions

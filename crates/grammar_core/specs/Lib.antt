@@ -1,6 +1,9 @@
 pub mod Grammars
 pub mod Kept
+pub mod Languages
+pub mod Limits
 pub mod Marks
 pub mod Refusals
+pub mod Sets
 pub mod WellFormed
 pub mod Whole

@@ -12,7 +12,7 @@ use Rattle.grammar_core.specs.declared.ids.NtId.{NtId}
 use Rattle.grammar_core.specs.declared.production.Production.{Production}
 use Rattle.grammar_core.specs.Grammars.{Nonterminal, names_of, nonterminal_at, production_count}
 
--- the name stands already; or 256 nonterminals stand
+-- the name stands already; or 256 nonterminals stand, or more
 abbrev pub nonterminal_refusal : List Nonterminal → List ℕ → Option GrammarError
 nonterminal_refusal grammar name =
     if is_some (place_of (names_of grammar) name) then Some Twice
@@ -26,7 +26,7 @@ abbrev pub makes : List Nonterminal → TypeId → List NtId → Option Construc
 makes grammar owner args None = false
 makes grammar owner args (Some c) = same_type c.owner owner && pointwise (λ t n. same_type t (nonterminal_at grammar n).owner) c.args args
 
--- the types don't fit; or 4,096 productions stand
+-- the types don't fit; or 4,096 productions stand, or more
 abbrev pub production_refusal : List Nonterminal → Declarations → NtId → ConId → List NtId → Option GrammarError
 production_refusal grammar sig n con args =
     if makes grammar (nonterminal_at grammar n).owner args (slice_get sig.constructors con.0) then (if nat_lt (production_count grammar) 4096 then None else Some (Limit 13))

@@ -1,18 +1,20 @@
 ghost use Rattle.std.specs.Prelude.{◌≡◌, ◌<◌, ◌↔◌, [], Err, length, IsTrue, All, IfSome, IfNone, IfOk, OnOk, OnErr, IsOkUnless};
 ghost use Rattle.grammar_core.specs.Grammars.{IsKnown, Reaches, is_member, nonterminal_at, productions_of, start};
+ghost use Rattle.grammar_core.specs.Languages.{IsGrammarOf};
+ghost use Rattle.grammar_core.specs.Limits.{KeepsLimits};
 ghost use Rattle.grammar_core.specs.Refusals.{nonterminal_refusal, production_refusal, with_nonterminal, with_production};
 ghost use Rattle.grammar_core.specs.WellFormed.{IsGrammar};
 ghost use Rattle.grammar_core.specs.Whole.{whole};
 ghost use Rattle.grammar_core.specs.declared.grammar.GrammarError.TheVariants.{Memory};
+ghost use Rattle.sig_core.specs.Signatures.{Declarations};
 ghost use Rattle.term_core.specs.Banks.{IsLive, tree_of};
 
 use crate::ids::NtId;
-use crate::marks::{spread, start_marks};
+use crate::marks::Marks;
 use crate::members;
 use crate::parts::{has_name, makes, nonterminal_of, production_of, push_both};
 use crate::production::{Nonterminal, Production};
 use crate::whole::{bare, fill};
-use items::Items;
 use sig_core::{Bytes, ConId, Signature, TypeId};
 use std::alloc::{AllocError, Global};
 use std::marker::Model;
@@ -27,7 +29,7 @@ pub enum GrammarError {
     #[error("the constructor or its children are not of the types wanted")]
     WrongType,
     /// The number of the limit that adding would pass: 12 is 256 nonterminals, 13 is 4,096 productions in all.
-    #[error("limit {0} is passed")]
+    #[error("a limit is passed")]
     Limit(u8),
     #[error("out of memory")]
     Memory,
@@ -44,15 +46,16 @@ impl From<AllocError> for GrammarError {
     }
 }
 
-/// Nonterminals and their productions, in order of adding. The first nonterminal is the start.
+/// Nonterminals and their productions, in order of adding. The first nonterminal is the start. The calls that add keep to
+/// limits; a grammar as such has none.
 #[derive(Debug, Drop)]
 pub struct Grammar {
     alloc: Global,
     nonterminals: Vec<Nonterminal>,
     /// How many productions stand in all.
     count: usize,
-    /// For each nonterminal, whether the start leads to it.
-    marks: Items<bool>,
+    /// On each nonterminal that the start leads to.
+    marks: Marks,
 }
 
 impl Model for Grammar {
@@ -70,13 +73,14 @@ impl Model for Grammar {
 
 impl Grammar {
     pub fn new(alloc: Global) -> Grammar
-        ensures { result ≡ [] }
+        ensures empty { result ≡ [] }
+        ensures limits { KeepsLimits result }
     {
         Grammar {
             alloc,
             nonterminals: Vec::new(alloc),
             count: 0,
-            marks: Items::new(alloc),
+            marks: Marks::new(alloc),
         }
     }
 
@@ -84,13 +88,15 @@ impl Grammar {
     /// in order of the types, each with a production for every constructor of its type, in order.
     pub fn all(alloc: Global, signature: &Signature, first: TypeId) -> Result<Grammar, AllocError>
         requires { first.0 < length signature.now.types }
-        ensures { IfOk result (λ grammar. grammar ≡ whole signature.now first) }
+        ensures whole { IfOk result (λ grammar. grammar ≡ whole signature.now first) }
+        ensures of_signature { IfOk result (IsGrammarOf signature.now) }
+        ensures limits { IfOk result KeepsLimits }
     {
         let count = usize::from(signature.constructors());
         let mut nonterminals = bare(alloc, signature, first)?;
         fill(alloc, signature, first, &mut nonterminals)?;
-        let mut marks = start_marks(alloc, nonterminals.len())?;
-        spread(nonterminals.as_slice(), &mut marks);
+        let mut marks = Marks::of_start(alloc, nonterminals.len())?;
+        marks.spread(nonterminals.as_slice(), 0);
         Ok(Grammar {
             alloc,
             nonterminals,
@@ -99,13 +105,15 @@ impl Grammar {
         })
     }
 
-    /// Adds a nonterminal without productions. `Twice` where one has that name, else `Limit(12)` where 256 stand.
+    /// Adds a nonterminal without productions. `Twice` where one has that name, else `Limit(12)` where 256 or more stand.
     pub fn add_nonterminal(&mut self, name: &[u8], owner: TypeId) -> Result<NtId, GrammarError>
         ensures refused { IfSome (nonterminal_refusal self.old name.now) (λ refusal. result ≡ Err refusal) }
         ensures accepted { IfNone (nonterminal_refusal self.old name.now) (IsOkUnless result Memory) }
         ensures added { IfOk result
             (λ id. (id ≡ record { 0 = length self.old }) × (self.new ≡ with_nonterminal self.old name.now owner)) }
         ensures unchanged { OnErr result (self.new ≡ self.old) }
+        ensures of_signature { (sig : Declarations) → IsGrammarOf sig self.old → IsGrammarOf sig self.new }
+        ensures limits { KeepsLimits self.old → KeepsLimits self.new }
     {
         if has_name(self.nonterminals.as_slice(), name) {
             return Err(GrammarError::Twice);
@@ -120,7 +128,7 @@ impl Grammar {
     }
 
     /// Adds a production. `WrongType` where the constructor's type is not the nonterminal's, or the number or the types
-    /// of `args` are not the constructor's, else `Limit(13)` where 4,096 productions stand in all.
+    /// of `args` are not the constructor's, else `Limit(13)` where 4,096 productions or more stand in all.
     pub fn add_production(
         &mut self,
         signature: &Signature,
@@ -135,6 +143,8 @@ impl Grammar {
         ensures accepted { IfNone (production_refusal self.old signature.now nt con args.now) (IsOkUnless result Memory) }
         ensures added { OnOk result (self.new ≡ with_production self.old nt (record { con = con; args = args.now })) }
         ensures unchanged { OnErr result (self.new ≡ self.old) }
+        ensures of_signature { IsGrammarOf signature.now self.old → IsGrammarOf signature.now self.new }
+        ensures limits { KeepsLimits self.old → KeepsLimits self.new }
     {
         if !makes(self.nonterminals.as_slice(), signature, nt, con, args) {
             return Err(GrammarError::WrongType);
@@ -147,7 +157,7 @@ impl Grammar {
         let nonterminal = &mut self.nonterminals[place];
         nonterminal.productions.push(made)?;
         self.count += 1;
-        spread(self.nonterminals.as_slice(), &mut self.marks);
+        self.marks.follow(self.nonterminals.as_slice(), nt, args);
         Ok(())
     }
 
@@ -165,10 +175,10 @@ impl Grammar {
         requires { IsKnown self.now nt }
         ensures { IsTrue result ↔ Reaches self.now start nt }
     {
-        self.marks.as_slice()[usize::from(nt.0)]
+        self.marks.has(nt)
     }
 
-    /// How many nonterminals stand, at most 256.
+    /// How many nonterminals stand.
     pub fn len(&self) -> u16
         ensures value { result ≡ length self.now }
         ensures well_formed { IsGrammar self.now }

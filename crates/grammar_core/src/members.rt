@@ -1,47 +1,25 @@
-ghost use Rattle.std.specs.Prelude.{◌≡◌, ◌<◌, length, All};
-ghost use lib.Pointwise.{pointwise};
+ghost use Rattle.std.specs.Prelude.{◌≡◌};
 ghost use Rattle.grammar_core.specs.Grammars.{IsKnown, is_member};
 ghost use Rattle.grammar_core.specs.WellFormed.{AllKnown};
 ghost use Rattle.term_core.specs.Banks.{IsLive, tree_of};
-ghost use Rattle.term_core.specs.Terms.{kids_of};
 
+use crate::by_productions::is_produced;
+use crate::by_sets::is_in_set;
 use crate::ids::NtId;
 use crate::production::Nonterminal;
 use term_core::{Bank, TermId};
 
-/// Whether the term is of the language of the nonterminal.
-#[cycle(member)]
+/// Whether the term is of the language of the nonterminal. The time is linear in the term's size where there are at most
+/// 256 nonterminals, and can be exponential in its height where there are more.
 pub(crate) fn is_member(grammar: &[Nonterminal], nt: NtId, bank: &Bank, id: TermId) -> bool
     requires known { AllKnown grammar.now grammar.now }
     requires nonterminal { IsKnown grammar.now nt }
     requires live { IsLive bank.now id }
     ensures { result ≡ is_member grammar.now (tree_of bank.now id) nt }
 {
-    let con = bank.con(id);
-    for production in grammar[usize::from(nt.0)].productions.as_slice() {
-        if production.con == con && are_members(grammar, production.args.as_slice(), bank, id) {
-            return true;
-        }
+    if grammar.len() <= 256 {
+        is_in_set(grammar, nt, bank, id)
+    } else {
+        is_produced(grammar, nt, bank, id)
     }
-    false
-}
-
-/// Whether the term's children are, in order, of the languages of these nonterminals.
-#[cycle(member)]
-fn are_members(grammar: &[Nonterminal], args: &[NtId], bank: &Bank, id: TermId) -> bool
-    requires known { AllKnown grammar.now grammar.now }
-    requires args { All (IsKnown grammar.now) args.now }
-    requires live { IsLive bank.now id }
-    ensures { result ≡ pointwise (is_member grammar.now) (kids_of (tree_of bank.now id)) args.now }
-{
-    let kids = bank.kids(id);
-    if kids.len() != args.len() {
-        return false;
-    }
-    for i in 0..kids.len() {
-        if !is_member(grammar, args[i], bank, kids[i]) {
-            return false;
-        }
-    }
-    true
 }

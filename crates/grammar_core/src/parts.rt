@@ -1,10 +1,12 @@
 ghost use Rattle.std.specs.Prelude.{◌≡◌, ◌<◌, [], ◌∷◌, ◌++◌, length, is_some, slice_get, All, IfOk, OnOk, OnErr};
 ghost use lib.Pointwise.{pointwise};
 ghost use Rattle.grammar_core.specs.Grammars.{IsKnown, names_of, nonterminal_at};
+ghost use Rattle.grammar_core.specs.Marks.{with_place};
 ghost use Rattle.grammar_core.specs.Refusals.{makes, same_type};
 ghost use Rattle.sig_core.specs.Names.{place_of};
 
 use crate::ids::{NtId, NtIds};
+use crate::marks::Marks;
 use crate::production::{Nonterminal, Production};
 use items::Items;
 use sig_core::{Bytes, ConId, Signature, TypeId};
@@ -51,20 +53,21 @@ pub(crate) fn production_of(
     Ok(Production { con, args: kept })
 }
 
-/// Puts a nonterminal and its mark last: both or neither.
+/// Puts a nonterminal and its place for a mark last: both or neither.
 pub(crate) fn push_both(
     nonterminals: &mut Vec<Nonterminal>,
-    marks: &mut Items<bool>,
+    marks: &mut Marks,
     nonterminal: Nonterminal,
-    mark: bool,
+    is_start: bool,
 ) -> Result<(), AllocError>
-    ensures ok { OnOk result ((nonterminals.new.items ≡ nonterminals.old.items ++ nonterminal ∷ []) × (marks.new ≡ marks.old ++ mark ∷ [])) }
+    ensures nonterminals { OnOk result (nonterminals.new.items ≡ nonterminals.old.items ++ nonterminal ∷ []) }
+    ensures marks { OnOk result (marks.new ≡ with_place marks.old is_start) }
     ensures err { OnErr result ((nonterminals.new.items ≡ nonterminals.old.items) × (marks.new ≡ marks.old)) }
 {
-    marks.push(mark)?;
-    if let Err(error) = nonterminals.push(nonterminal) {
-        marks.pop();
-        return Err(AllocError::from(error));
+    nonterminals.push(nonterminal)?;
+    if let Err(error) = marks.add(is_start) {
+        nonterminals.pop();
+        return Err(error);
     }
     Ok(())
 }

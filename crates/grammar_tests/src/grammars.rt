@@ -1,6 +1,6 @@
 use crate::productions::{produce, two};
-use crate::sums::{B, E, PLUS, sums};
-use grammar_core::{Grammar, NtId};
+use crate::sums::{B, E, NOT, PLUS, sums};
+use grammar_core::{Grammar, GrammarError, NtId};
 use sig_core::{ConId, Signature};
 use std::alloc::{AllocError, Global};
 use std::cmp::Ordering;
@@ -158,5 +158,49 @@ fn a_production_stands_as_often_as_it_was_added(rt: HostRuntime) -> Result<(), F
     produce(&rt, &mut grammar, &signature, 0, 0, &[])?;
     produce(&rt, &mut grammar, &signature, 0, 0, &[])?;
     assert_eq!(rt; count(&rt, &grammar, 0), 2);
+    Ok(())
+}
+
+const TRUE: u16 = 6;
+
+const FALSE: u16 = 7;
+
+/// A chain of 198 times `$not` over a leaf, so that the whole has the id 198.
+fn chain(
+    rt: &impl Abort,
+    alloc: Global,
+    signature: &Signature,
+    leaf: u16,
+) -> Result<Bank, AllocError> {
+    let mut bank = Bank::new(alloc);
+    let mut id = intern(rt, signature, &mut bank, leaf, &[])?;
+    for _ in 0..198 {
+        id = intern(rt, signature, &mut bank, NOT, &[id])?;
+    }
+    Ok(bank)
+}
+
+/// The truths that `$not` makes from `$t`, with the production of `$not` twice.
+fn negations(
+    rt: &impl Abort,
+    alloc: Global,
+    signature: &Signature,
+) -> Result<Grammar, GrammarError> {
+    let mut grammar = Grammar::new(alloc);
+    let b = grammar.add_nonterminal(b"B", B)?;
+    produce(rt, &mut grammar, signature, b.0, NOT, &[b])?;
+    produce(rt, &mut grammar, signature, b.0, NOT, &[b])?;
+    produce(rt, &mut grammar, signature, b.0, TRUE, &[])?;
+    Ok(grammar)
+}
+
+#[test]
+fn a_chain_under_equal_productions_is_tried_at_once(rt: HostRuntime) -> Result<(), Fail> {
+    let signature = sums(&rt, rt.alloc())?;
+    let grammar = negations(&rt, rt.alloc(), &signature)?;
+    let of_true = chain(&rt, rt.alloc(), &signature, TRUE)?;
+    assert!(rt; is_member(&rt, &grammar, 0, &of_true, 198));
+    let of_false = chain(&rt, rt.alloc(), &signature, FALSE)?;
+    assert!(rt; !is_member(&rt, &grammar, 0, &of_false, 198));
     Ok(())
 }

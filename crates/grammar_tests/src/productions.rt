@@ -107,3 +107,20 @@ fn the_start_leads_round_a_cycle(rt: HostRuntime) -> Result<(), Fail> {
     }
     Ok(())
 }
+
+/// Each of four nonterminals leads to the next: the last first.
+const LATE: [(u16, u16); 3] = [(2, 3), (1, 2), (0, 1)];
+
+#[test]
+fn what_the_start_leads_to_late_is_reachable(rt: HostRuntime) -> Result<(), Fail> {
+    let signature = sums(&rt, rt.alloc())?;
+    let mut grammar = four(rt.alloc())?;
+    for (from, to) in LATE {
+        assert!(rt; !is_reachable(&rt, &grammar, 3));
+        produce(&rt, &mut grammar, &signature, from, NOT, &[NtId(to)])?;
+    }
+    for nt in 0..4 {
+        assert!(rt; is_reachable(&rt, &grammar, nt));
+    }
+    Ok(())
+}

@@ -13,8 +13,8 @@ use Rattle.grammar_core.specs.declared.production.Production.{Production}
 use Rattle.grammar_core.specs.Grammars.{Nonterminal, IsKnown, blank, is_member, productions_of}
 use Rattle.grammar_core.proofs.Membership.{is_member-of}
 use Rattle.grammar_core.proofs.Pointwise.{any_end, any_found, any_passed, both_false, lengths_differ, pointwise-map, pointwise_at, pointwise_end}
-use Rattle.grammar_core.proofs.members.+member.Goals as goal
-use Rattle.grammar_core.proofs.members.+member.Goals.{is_member-else-eq-via-then-eq+else-are_members, is_member-else-eq-via-else-eq}
+use Rattle.grammar_core.proofs.by_productions.+search.Goals as goal
+use Rattle.grammar_core.proofs.by_productions.+search.Goals.{is_produced-else-eq-via-then-eq+else-are_produced, is_produced-else-eq-via-else-eq}
 
 -- the children's test, over the ids
 by_ids : (grammar : List Nonterminal) (bank : List Tree) (id : TermId) (kids : List TermId) (args : List NtId) → tree_of bank id ≡ node (con_of (tree_of bank id)) (map (tree_of bank) kids)
@@ -22,24 +22,24 @@ by_ids : (grammar : List Nonterminal) (bank : List Tree) (id : TermId) (kids : L
 by_ids grammar bank id kids args e =
     ap (λ ts. pointwise (is_member grammar) ts args) (ap kids_of e ∙ kids_of-node (con_of (tree_of bank id)) (map (tree_of bank) kids)) ∙ pointwise-map (is_member grammar) (tree_of bank) kids args
 
-pub are_members-returns-then-kids-args : goal.are_members-returns-then-kids-args
-are_members-returns-then-kids-args t c =
+pub are_produced-returns-then-kids-args : goal.are_produced-returns-then-kids-args
+are_produced-returns-then-kids-args t c =
     let test = λ (kid : TermId) (n : NtId). is_member c.args.grammar.now (tree_of c.args.bank.now kid) n in
     sym (by_ids c.args.grammar.now c.args.bank.now c.args.id c.kids-kids.result.now c.args.args.now c.kids-kids.ensures.node ∙ lengths_differ test c.kids-kids.result.now c.args.args.now c.if-kids-args.true)
 
-pub are_members-returns-then-not-is_member : goal.are_members-returns-then-not-is_member
-are_members-returns-then-not-is_member t c =
+pub are_produced-returns-then-not-is_produced : goal.are_produced-returns-then-not-is_produced
+are_produced-returns-then-not-is_produced t c =
     let test = λ (kid : TermId) (n : NtId). is_member c.args.grammar.now (tree_of c.args.bank.now kid) n in
     let kids = c.kids-kids.result.now in
     let args = c.args.args.now in
     let i = c.loop-i.i in
     let in_args : i < length args = omega (arith, c.loop-i-test.true, c.if-kids-args.false) in
-    let no = sym c.is_member.ensures ∙ c.if-not-is_member.true in
+    let no = sym c.is_produced.ensures ∙ c.if-not-is_produced.true in
     sym (by_ids c.args.grammar.now c.args.bank.now c.args.id kids args c.kids-kids.ensures.node ∙ sym c.loop-i.invariant ∙ pointwise_at test kids args i (record { 0 = 0 }) (record { 0 = 0 }) c.loop-i-test.true in_args
     ∙ ap (λ b. b && pointwise test (drop (i + 1) kids) (drop (i + 1) args)) no)
 
-pub are_members-returns : goal.are_members-returns
-are_members-returns t c =
+pub are_produced-returns : goal.are_produced-returns
+are_produced-returns t c =
     let test = λ (kid : TermId) (n : NtId). is_member c.args.grammar.now (tree_of c.args.bank.now kid) n in
     let kids = c.kids-kids.result.now in
     let args = c.args.args.now in
@@ -59,32 +59,32 @@ fits grammar t con p = nat_eq p.con.0 con.0 && pointwise (is_member grammar) (ki
 by_items : (grammar : List Nonterminal) (t : Tree) (n : NtId) (con : ConId) (items : List Production) → con ≡ con_of t → items ≡ productions_of grammar n → is_member grammar t n ≡ list_any (fits grammar t con) items
 by_items grammar t n con items e f = is_member-of grammar t n ∙ ap₂ (λ k ps. list_any (fits grammar t k) ps) (sym e) (sym f)
 
-pub is_member-returns-then-are_members : goal.is_member-returns-then-are_members
-is_member-returns-then-are_members t c =
+pub is_produced-returns-then-are_produced : goal.is_produced-returns-then-are_produced
+is_produced-returns-then-are_produced t c =
     let grammar = c.args.grammar.now in
     let tree = tree_of c.args.bank.now c.args.id in
     let items = c.as_slice-production-items.result.now in
     let item = c.production-item.result in
     let all = items_are grammar c.args.nt c.from.result c.index-grammar-from.result items c.requires.nonterminal c.from.ensures c.as_slice-production-items.ensures in
-    let one : fits grammar tree c.con-con.result item ≡ true = ap₂ (λ a b. a && b) (sym c.if-eq.ensures) (ap (pointwise (is_member grammar) (kids_of tree)) (sym c.as_slice.ensures) ∙ sym c.are_members.ensures ∙ c.if-are_members.true) in
+    let one : fits grammar tree c.con-con.result item ≡ true = ap₂ (λ a b. a && b) (sym c.if-eq.ensures) (ap (pointwise (is_member grammar) (kids_of tree)) (sym c.as_slice.ensures) ∙ sym c.are_produced.ensures ∙ c.if-are_produced.true) in
     sym (by_items grammar tree c.args.nt c.con-con.result items c.con-con.ensures all ∙ sym c.loop-production.invariant
     ∙ any_found (fits grammar tree c.con-con.result) items c.loop-production.production-index item c.loop-production-test.true c.production-item.is one)
 
-pub is_member-loop-production-preserved : goal.is_member-loop-production-preserved
-is_member-loop-production-preserved t c =
+pub is_produced-loop-production-preserved : goal.is_produced-loop-production-preserved
+is_produced-loop-production-preserved t c =
     let grammar = c.args.grammar.now in
     let tree = tree_of c.args.bank.now c.args.id in
     let items = c.as_slice-production-items.result.now in
     let item = c.production-item.result in
     let none : fits grammar tree c.con-con.result item ≡ false = elim c.else-eq.branch [
-      | is_member-else-eq-via-then-eq+else-are_members w ↦ both_false (nat_eq item.con.0 c.con-con.result.0) (pointwise (is_member grammar) (kids_of tree) item.args)
-          (ap (pointwise (is_member grammar) (kids_of tree)) (sym w.as_slice.ensures) ∙ sym w.are_members.ensures ∙ w.if-are_members.false)
-      | is_member-else-eq-via-else-eq w ↦ ap (λ b. b && pointwise (is_member grammar) (kids_of tree) item.args) (sym w.if-eq.ensures)
+      | is_produced-else-eq-via-then-eq+else-are_produced w ↦ both_false (nat_eq item.con.0 c.con-con.result.0) (pointwise (is_member grammar) (kids_of tree) item.args)
+          (ap (pointwise (is_member grammar) (kids_of tree)) (sym w.as_slice.ensures) ∙ sym w.are_produced.ensures ∙ w.if-are_produced.false)
+      | is_produced-else-eq-via-else-eq w ↦ ap (λ b. b && pointwise (is_member grammar) (kids_of tree) item.args) (sym w.if-eq.ensures)
     ] in
     any_passed (fits grammar tree c.con-con.result) items c.loop-production.production-index item c.loop-production-test.true c.production-item.is none ∙ c.loop-production.invariant
 
-pub is_member-returns : goal.is_member-returns
-is_member-returns t c =
+pub is_produced-returns : goal.is_produced-returns
+is_produced-returns t c =
     let grammar = c.args.grammar.now in
     let tree = tree_of c.args.bank.now c.args.id in
     let items = c.as_slice-production-items.result.now in
