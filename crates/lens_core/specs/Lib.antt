@@ -1,0 +1,4 @@
+pub mod Codes
+pub mod Exactness
+pub mod Lenses
+pub mod Meanings
