@@ -1,0 +1,5 @@
+pub mod Combining
+pub mod Growing
+pub mod Ascending
+pub mod Made
+pub mod Terms
