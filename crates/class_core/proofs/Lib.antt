@@ -1,0 +1,11 @@
+pub mod Classing
+pub mod Counting
+pub mod Founded
+pub mod Growth
+pub mod Keeping
+pub mod Leading
+pub mod Replacing
+pub mod Serving
+pub mod Stepping
+pub mod Theory
+pub mod Unchanged

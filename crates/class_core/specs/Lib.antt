@@ -1,0 +1,5 @@
+pub mod Choices
+pub mod Leaders
+pub mod Looks
+pub mod Sources
+pub mod Standing
