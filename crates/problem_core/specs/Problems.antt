@@ -1,20 +1,16 @@
--- Problems, their solutions and their answer; terms that are alike.
-use Rattle.std.specs.Prelude.{◌≡◌, ◌≤◌, ◌↔◌, ℕ, Option, Some, MatchOption, List, map, All, Contains}
+-- Problems, their solutions and their answer.
+use Rattle.std.specs.Prelude.{◌≡◌, ◌≤◌, ℕ, Option, MatchOption, List, All}
 use Rattle.std.specs.declared.cmp.Ordering.TheVariants.{Less}
-use Rattle.sig_core.specs.declared.ids.TypeId.{TypeId}
-use Rattle.sig_core.specs.declared.ids.RelId.{RelId}
-use Rattle.sig_core.specs.declared.value.Value.{Value}
 use Rattle.problem_core.specs.declared.parts.Constraint.{Constraint}
 use Rattle.problem_core.specs.declared.parts.Info.{Info}
 use Rattle.rule_core.specs.declared.rule.Rule.{Rule}
-use Rattle.term_core.specs.declared.tree.Tree.{Tree, out-Tree}
-use Rattle.sig_core.specs.Values.{sort_of}
-use Rattle.sig_core.specs.Signatures.{Declarations, kinds_of, inputs_of, plain_sorts, woven, term_type, owner_of}
+use Rattle.term_core.specs.declared.tree.Tree.{Tree}
+use Rattle.sig_core.specs.Signatures.{Declarations}
 use Rattle.term_core.specs.Terms.{size, term_cmp}
 use Rattle.grammar_core.specs.declared.production.Nonterminal.{Nonterminal}
 use Rattle.grammar_core.specs.Grammars.{Lang, start}
 use Rattle.rule_core.specs.Instances.{Fact}
-use Rattle.problem_core.specs.Derivations.{Within, IsLeastHeight}
+use Rattle.problem_core.specs.Derivations.{Within}
 
 -- what a problem is made of; the start is the grammar's first nonterminal
 pub record Parts : Type 0 where
@@ -45,22 +41,3 @@ pub record IsFirst (problem : Parts) (h n : ℕ) (t : Tree) : Type 0 where
 -- the first solution, or nothing where there is none
 abbrev pub IsAnswer : Parts → ℕ → ℕ → Option Tree → Type 0
 IsAnswer problem h n answer = MatchOption answer ((t : Tree) → ¬ IsSolution problem h n t) (IsFirst problem h n)
-
--- the inputs of a constraint's relation
-abbrev pub example_of : Declarations → Constraint → List Value
-example_of sig constraint = inputs_of (kinds_of sig constraint.relation) constraint.args
-
--- both facts have the least height h, for each h up to the bound
-abbrev pub SameHeights : Parts → ℕ → Fact → Fact → Type 0
-SameHeights problem bound f g = (h : ℕ) → h ≤ bound → IsLeastHeight problem.signature problem.rules f h ↔ IsLeastHeight problem.signature problem.rules g h
-
--- t and u have the same outputs at the same least heights, in each relation of the type and at each example
-pub record IsAlike (problem : Parts) (type : TypeId) (bound : ℕ) (t u : Tree) : Type 0 where
-  pub left : owner_of problem.signature (out-Tree t).con ≡ Some type
-  pub right : owner_of problem.signature (out-Tree u).con ≡ Some type
-  pub same : (r : RelId) (example : Constraint) (outputs : List Value) →
-      term_type (kinds_of problem.signature r) ≡ Some type →
-      Contains problem.constraints example →
-      map sort_of (example_of problem.signature example) ≡ inputs_of (kinds_of problem.signature r) (plain_sorts (kinds_of problem.signature r)) →
-      let args = woven (kinds_of problem.signature r) (example_of problem.signature example) outputs in
-      SameHeights problem bound (record { relation = r; term = t; args = args }) (record { relation = r; term = u; args = args })
