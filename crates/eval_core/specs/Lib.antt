@@ -1,0 +1,15 @@
+pub mod Alikeness
+pub mod Evaluations
+pub mod FactHeights
+pub mod Laws
+pub mod Lenses
+pub mod Marks
+pub mod Merging
+pub mod Outcomes
+pub mod RuleInstances
+pub mod Runs
+pub mod Searches
+pub mod ShiftExample
+pub mod SlowExample
+pub mod Tables
+pub mod Words
