@@ -1,0 +1,3 @@
+pub mod Derivable
+pub mod Relations
+pub mod Rules

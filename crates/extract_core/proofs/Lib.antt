@@ -1,0 +1,16 @@
+pub mod Adding
+pub mod CallLists
+pub mod Faults
+pub mod FirstSteps
+pub mod Fitting
+pub mod Growing
+pub mod Listing
+pub mod Placing
+pub mod Searching
+pub mod Tests
+pub mod Tidying
+pub mod Uniqueness
+pub mod Using
+pub mod Valid
+pub mod ValueEq
+pub mod ValueOrder

@@ -1,0 +1,12 @@
+pub mod Additions
+pub mod Derivings
+pub mod Examples
+pub mod FirstSteps
+pub mod Firsts
+pub mod Growth
+pub mod Laws
+pub mod Lookups
+pub mod Places
+pub mod Searches
+pub mod Starts
+pub mod Tidiness
