@@ -4,3 +4,5 @@ pub mod Writes
 pub mod Entries
 pub mod Memory
 pub mod MemorySinks
+pub mod Steady
+pub mod SteadySinks

@@ -1,21 +1,11 @@
--- What the objects in memory tell.
-use Rattle.std.specs.Prelude.{ℕ, List, [], Option, Some, None, drop, slice_get}
-use Rattle.semgus_io.specs.Entries.{bytes_of}
-use Rattle.semgus_io.specs.declared.memory_files.entry.Entry.{Entry}
+-- What files in memory tell.
+use Rattle.std.specs.Prelude.{ℕ, List, Option, Some}
+use Rattle.semgus_io.specs.Entries.{bytes_of, left_at}
 use Rattle.semgus_io.specs.declared.memory_files.MemoryFiles.{MemoryFiles}
-use Rattle.semgus_io.specs.declared.memory_files.Place.{Place}
 
 -- the file of the name, or that there is none
 abbrev pub held : MemoryFiles → List ℕ → Option (Option (List ℕ))
 held m name = Some (bytes_of name m.entries.items)
-
-abbrev bytes_from : ℕ → Option Entry → List ℕ
-bytes_from at None = []
-bytes_from at (Some e) = drop at e.bytes
-
-abbrev left_at : List Entry → Option Place → List ℕ
-left_at entries None = []
-left_at entries (Some p) = bytes_from p.at (slice_get entries p.entry)
 
 -- what wasn't taken of the begun file
 abbrev pub left : MemoryFiles → Option (List ℕ)

@@ -1,18 +1,9 @@
-mod entry;
-
 ghost use Rattle.std.specs.Prelude.{◌≡◌, ◌≢◌, ◌<◌, [], ◌∷◌, ◌++◌, ℕ, List, Some, None, OnOk, OnErr};
 
+use crate::entry::{Entry, Place, copy_from, find};
 use crate::{Failed, Files};
-use entry::{Entry, copy_from, find};
 use items::Items;
 use std::alloc::{AllocError, Global};
-
-/// How far the begun file was taken.
-#[derive(Clone, Copy, Debug)]
-struct Place {
-    entry: usize,
-    at: usize,
-}
 
 /// Files in memory, which tell their bytes. Their calls can be made to fail.
 #[derive(Debug, Drop)]

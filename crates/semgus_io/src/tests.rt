@@ -1,4 +1,7 @@
-use crate::{Files, HostFiles, HostSink, MemoryFiles, MemorySink, Sink, Words, put_all};
+use crate::{
+    Files, HostFiles, HostSink, MemoryFiles, MemorySink, Sink, SteadyFiles, SteadySink, Words,
+    put_all,
+};
 use std::test::Fail;
 
 #[test]
@@ -55,6 +58,68 @@ fn a_sink_without_room_fails(rt: HostRuntime) -> Result<(), Fail> {
     assert!(rt; sink.put(b"c").is_err());
     assert_eq!(rt; sink.written(), b"ab".as_slice());
     Ok(())
+}
+
+#[test]
+fn calls_of_files_are_counted_from_their_making(rt: HostRuntime) -> Result<(), Fail> {
+    let mut files = MemoryFiles::new(rt.alloc());
+    files.add("a", b"ab")?;
+    files.fail_begin(2)?;
+    files.fail_take(2)?;
+    let mut buf = [0u8; 1];
+    assert!(rt; files.begin("a").is_ok());
+    assert_eq!(rt; files.take(&mut buf), Ok(1));
+    files.add("b", b"c")?;
+    files.piece(1);
+    files.fail_begin(9)?;
+    files.fail_take(9)?;
+    assert!(rt; files.begin("a").is_err());
+    assert!(rt; files.take(&mut buf).is_err());
+    assert!(rt; files.begin("a").is_ok());
+    Ok(())
+}
+
+#[test]
+fn puts_are_counted_from_the_making_of_the_sink(rt: HostRuntime) -> Result<(), Fail> {
+    let mut sink = MemorySink::new(rt.alloc(), 100)?;
+    sink.fail_put(2)?;
+    assert_eq!(rt; sink.put(b"a"), Ok(1));
+    sink.piece(1);
+    sink.fail_put(9)?;
+    assert!(rt; sink.put(b"b").is_err());
+    assert_eq!(rt; sink.put(b"bc"), Ok(1));
+    assert_eq!(rt; sink.written(), b"ab".as_slice());
+    Ok(())
+}
+
+#[test]
+fn steady_files_fail_at_names_that_are_not_held(rt: HostRuntime) -> Result<(), Fail> {
+    let mut files = SteadyFiles::new(rt.alloc());
+    files.add("a", b"old")?;
+    files.add("a", b"hello")?;
+    files.piece(3);
+    let mut buf = [0u8; 4];
+    assert!(rt; files.begin("b").is_err());
+    assert_eq!(rt; files.take(&mut buf), Ok(0));
+    assert!(rt; files.begin("a").is_ok());
+    assert_eq!(rt; files.take(&mut buf), Ok(3));
+    assert_eq!(rt; buf[..3], b"hel"[..]);
+    assert_eq!(rt; files.take(&mut buf), Ok(2));
+    assert_eq!(rt; buf[..2], b"lo"[..]);
+    assert_eq!(rt; files.take(&mut buf), Ok(0));
+    Ok(())
+}
+
+#[test]
+fn a_steady_sink_fails_where_it_is_full(rt: HostRuntime) {
+    let mut room = [0u8; 3];
+    {
+        let mut sink = SteadySink::new(&mut room);
+        assert_eq!(rt; sink.put(b"ab"), Ok(2));
+        assert_eq!(rt; sink.put(b"cd"), Ok(1));
+        assert!(rt; sink.put(b"d").is_err());
+    }
+    assert_eq!(rt; room, *b"abc");
 }
 
 #[test]

@@ -3,7 +3,7 @@ use Rattle.std.proofs.lemmas.List.{at_drop_more}
 use Rattle.std.proofs.lemmas.Option.{slice_get_read}
 use Rattle.std.specs.Cmp.Lexicographic.{pointwise}
 use Rattle.semgus_io.specs.Entries.{bytes_of}
-use Rattle.semgus_io.proofs.memory_files.entry.find.Goals as goal
+use Rattle.semgus_io.proofs.entry.find.Goals as goal
 
 pub returns-then-eq : goal.returns-then-eq
 returns-then-eq c =

@@ -1,9 +1,16 @@
 ghost use Rattle.std.specs.Prelude.{◌≡◌, ◌-◌, [], min, length, take, drop, MatchOption, Some, None, slice_get};
 ghost use Rattle.semgus_io.specs.Entries.{bytes_of};
-ghost use Rattle.semgus_io.specs.declared.memory_files.entry.Entry.{Entry};
+ghost use Rattle.semgus_io.specs.declared.entry.Entry.{Entry};
 
 use items::Items;
 use std::alloc::Global;
+
+/// How far the begun file was taken.
+#[derive(Clone, Copy, Debug)]
+pub struct Place {
+    pub entry: usize,
+    pub at: usize,
+}
 
 /// A name and its bytes.
 #[derive(Debug, Drop)]
