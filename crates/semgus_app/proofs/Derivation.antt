@@ -1,11 +1,11 @@
 -- Steps that derive the constraints on a constant are a derivation: valid, tidy, with each constraint's fact, and all used.
-use Rattle.std.proofs.Common.{◌≡◌, ◌≢◌, ℕ, zero, suc, ◌<◌, ◌≤◌, Some, option_map, List, [], ◌∷◌, map, take, length, slice_get, slice_index, All, Contains, refl, sym, ap, ap₂, ◌∙◌, subst, inl, arith}
-use Rattle.std.specs.List.{AllZip}
+use Rattle.std.proofs.Common.{◌≡◌, ◌≢◌, ℕ, zero, suc, ◌<◌, ◌≤◌, Some, option_map, List, [], ◌∷◌, map, take, length, slice_get, slice_index, true, All, Contains, refl, sym, ap, ap₂, ◌∙◌, subst, inl, arith}
+use Rattle.std.specs.List.{AllZip, list_all}
 use Rattle.std.proofs.lemmas.Option.{none-some, same_Some, slice_get-map, slice_get_within, get_or_from_slice_get}
 use Rattle.std.proofs.lemmas.List.{length-map, get_or-map}
 use Rattle.std.proofs.lemmas.List.Elements.{All-nil, All-contains, All-weaker}
 use Rattle.sig_core.specs.declared.ids.ConId.{ConId}
-use Rattle.sig_core.specs.Values.{sort_of}
+use Rattle.sig_core.specs.Values.{sort_of, is_value}
 use Rattle.sig_core.specs.Signatures.{kinds_of, plain_sorts}
 use Rattle.term_core.specs.declared.tree.Tree.{Tree}
 use Rattle.term_core.specs.Terms.{node}
@@ -16,12 +16,13 @@ use Rattle.rule_core.specs.Rulebooks.{rules_for}
 use Rattle.problem_core.specs.declared.parts.Constraint.{Constraint}
 use Rattle.problem_core.specs.Derivations.{Within, IsLeastHeight}
 use Rattle.problem_core.specs.Problems.{Parts, fact_on}
-use Rattle.deriv_core.specs.declared.steps.Step.{Step}
-use Rattle.deriv_core.specs.declared.steps.StepId.{StepId}
-use Rattle.deriv_core.specs.Derivings.{IsDerivation}
-use Rattle.deriv_core.specs.Steps.{TreeStep, tree_step, tree_steps, Test, rule_exists, values_fit, premises_earlier, premises_match, atoms_hold, height_fits, Passes, step_fact, next_height, heights_of}
-use Rattle.deriv_core.proofs.Tests.{tested}
-use Rattle.deriv_core.proofs.Valid.{height_at}
+use Rattle.deriv_core.specs.declared.parts.Step.{Step}
+use Rattle.deriv_core.specs.declared.parts.StepId.{StepId}
+use Rattle.extract_core.specs.Derivings.{IsDerivation}
+use Rattle.deriv_core.specs.Steps.{TreeStep, tree_step, tree_steps, Test, rule_exists, values_fit, premises_earlier, premises_match, atoms_hold, height_fits, Passes, step_fact, step_heights}
+use Rattle.deriv_core.specs.Heights.{next_height}
+use Rattle.extract_core.proofs.Tests.{tested}
+use Rattle.extract_core.proofs.Valid.{height_at}
 use Rattle.semgus_app.specs.Constants.{HasConstants}
 use Rattle.semgus_app.specs.Derivations.{Derives, IsOf, IsOnConstant, Stands}
 use Rattle.semgus_app.specs.Searches.{rule_number}
@@ -47,14 +48,17 @@ as_leaf rules con c s d =
 abbrev IsSorted : Parts → Constraint → Type 0
 IsSorted p c = map sort_of c.args ≡ plain_sorts (kinds_of p.signature c.relation)
 
-leaf_passes : (p : Parts) (con : ConId) (c : Constraint) (n : ℕ) → HasConstants p → IsSorted p c → rule_number p.rules c.relation con c.args ≡ Some n
+abbrev IsRanged : Constraint → Type 0
+IsRanged c = list_all is_value c.args ≡ true
+
+leaf_passes : (p : Parts) (con : ConId) (c : Constraint) (n : ℕ) → HasConstants p → IsSorted p c → IsRanged c → rule_number p.rules c.relation con c.args ≡ Some n
     → (bound : ℕ) → 1 ≤ bound → (earlier : List TreeStep) (test : Test) → Passes p.signature p.rules bound earlier (leaf con c n) test
-leaf_passes p con c n has sorted number bound positive earlier =
+leaf_passes p con c n has sorted ranged number bound positive earlier =
     let r = numbered p.rules c.relation con c.args n number in
     let rule : Rule = r.0 in
     tested p.signature p.rules bound earlier (leaf con c n) rule
     (ap (λ o. slice_get (rules_for p.rules c.relation o.con) n) (out-node con []) ∙ r.1)
-    (sorted ∙ sym (slots_at p.signature p.rules c.relation con n rule has.rules r.1))
+    (sorted ∙ sym (slots_at p.signature p.rules c.relation con n rule has.rules r.1), ranged)
     (All-nil (λ k. k < length earlier))
     (sym (ap (map (call_fact p.signature (node con []) c.args)) (plain_at p.rules c.relation con n rule has.rules r.1).1))
     r.2 positive
@@ -86,6 +90,7 @@ record IsLeaf (p : Parts) (con : ConId) (step : TreeStep) : Type 0 where
   number : ℕ
   is : step ≡ leaf con constraint number
   sorted : IsSorted p constraint
+  ranged : IsRanged constraint
   rule : rule_number p.rules constraint.relation con constraint.args ≡ Some number
 
 derives_at : (p : Parts) (con : ConId) (steps : List Step) (ids : List StepId) → HasDerived p.rules con p.constraints steps ids → (k : ℕ) (s : Step) → slice_get steps k ≡ Some s → IsDerived p.rules con p.constraints s
@@ -100,12 +105,13 @@ leaf_at p con steps ids has h k step e =
       number = m.0.rule;
       is = sym m.2 ∙ as_leaf p.rules con d.0 m.0 d.2;
       sorted = All-contains (IsSorted p) p.constraints d.0 has.sorted d.1;
+      ranged = All-contains IsRanged p.constraints d.0 has.in_range d.1;
       rule = d.2.rule;
     }
 
 passes_at : (p : Parts) (con : ConId) (step : TreeStep) → HasConstants p → IsLeaf p con step → (bound : ℕ) → 1 ≤ bound → (earlier : List TreeStep) (test : Test) → Passes p.signature p.rules bound earlier step test
 passes_at p con step has l bound positive earlier test =
-    subst (λ s. Passes p.signature p.rules bound earlier s test) (sym l.is) (leaf_passes p con l.constraint l.number has l.sorted l.rule bound positive earlier test)
+    subst (λ s. Passes p.signature p.rules bound earlier s test) (sym l.is) (leaf_passes p con l.constraint l.number has l.sorted l.ranged l.rule bound positive earlier test)
 
 on_constant_of : (p : Parts) (con : ConId) (s : Step) → HasConstants p → IsDerived p.rules con p.constraints s → IsOnConstant p.signature s
 on_constant_of p con s has d =
@@ -135,21 +141,21 @@ not_within_0 : (p : Parts) (fact : Fact) (h : ℕ) → h < 1 → ¬ Within p.sig
 not_within_0 p fact zero low w = w
 not_within_0 p fact (suc h) low w = absurd (omega arith)
 
-least_1 : (p : Parts) (con : ConId) (c : Constraint) (n : ℕ) → HasConstants p → IsSorted p c → rule_number p.rules c.relation con c.args ≡ Some n → IsLeastHeight p.signature p.rules (step_fact p.signature (leaf con c n)) 1
-least_1 p con c n has sorted number =
+least_1 : (p : Parts) (con : ConId) (c : Constraint) (n : ℕ) → HasConstants p → IsSorted p c → IsRanged c → rule_number p.rules c.relation con c.args ≡ Some n → IsLeastHeight p.signature p.rules (step_fact p.signature (leaf con c n)) 1
+least_1 p con c n has sorted ranged number =
     let r = numbered p.rules c.relation con c.args n number in record {
       within = subst (λ values. Within p.signature p.rules 1 (record { relation = c.relation; term = node con []; args = values })) (sym (whole_values p.signature c.relation c.args sorted))
-          (derived p.signature p.rules 0 c.relation con c.args n r.0 has.rules sorted r.1 r.2);
+          (derived p.signature p.rules 0 c.relation con c.args n r.0 has.rules sorted ranged r.1 r.2);
       least = not_within_0 p (step_fact p.signature (leaf con c n));
     }
 
-height_of_leaf : (p : Parts) (con : ConId) (steps : List TreeStep) (k : ℕ) (step : TreeStep) → slice_get steps k ≡ Some step → IsLeaf p con step → slice_index (heights_of steps) k ≡ 1
-height_of_leaf p con steps k step e l = height_at steps k step e ∙ ap (λ s. next_height (heights_of (take k steps)) s) l.is
+height_of_leaf : (p : Parts) (con : ConId) (steps : List TreeStep) (k : ℕ) (step : TreeStep) → slice_get steps k ≡ Some step → IsLeaf p con step → slice_index (step_heights steps) k ≡ 1
+height_of_leaf p con steps k step e l = height_at steps k step e ∙ ap (λ s. next_height (step_heights (take k steps)) s.premises) l.is
 
-least_at : (p : Parts) (con : ConId) (steps : List TreeStep) (k : ℕ) (step : TreeStep) → HasConstants p → slice_get steps k ≡ Some step → IsLeaf p con step → IsLeastHeight p.signature p.rules (step_fact p.signature step) (slice_index (heights_of steps) k)
+least_at : (p : Parts) (con : ConId) (steps : List TreeStep) (k : ℕ) (step : TreeStep) → HasConstants p → slice_get steps k ≡ Some step → IsLeaf p con step → IsLeastHeight p.signature p.rules (step_fact p.signature step) (slice_index (step_heights steps) k)
 least_at p con steps k step has e l =
     subst (IsLeastHeight p.signature p.rules (step_fact p.signature step)) (sym (height_of_leaf p con steps k step e l))
-    (subst (λ s. IsLeastHeight p.signature p.rules (step_fact p.signature s) 1) (sym l.is) (least_1 p con l.constraint l.number has l.sorted l.rule))
+    (subst (λ s. IsLeastHeight p.signature p.rules (step_fact p.signature s) 1) (sym l.is) (least_1 p con l.constraint l.number has l.sorted l.ranged l.rule))
 
 fact_of_step : (p : Parts) (con : ConId) (c : Constraint) (s : Step) → HasConstants p → IsOf c s → IsDerived p.rules con p.constraints s → step_fact p.signature (tree_step (bank con) s) ≡ fact_on (node con []) c
 fact_of_step p con c s has is d =

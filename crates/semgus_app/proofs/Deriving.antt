@@ -8,8 +8,8 @@ use Rattle.std.proofs.lemmas.List.Quantifiers.{all_pairs_push}
 use Rattle.sig_core.specs.declared.ids.ConId.{ConId}
 use Rattle.rule_core.specs.declared.rule.Rule.{Rule}
 use Rattle.problem_core.specs.declared.parts.Constraint.{Constraint}
-use Rattle.deriv_core.specs.declared.steps.Step.{Step}
-use Rattle.deriv_core.specs.declared.steps.StepId.{StepId}
+use Rattle.deriv_core.specs.declared.parts.Step.{Step}
+use Rattle.deriv_core.specs.declared.parts.StepId.{StepId}
 use Rattle.semgus_app.specs.Derivations.{Adds, Derives, IsOf, Stands}
 
 -- two steps of one fact

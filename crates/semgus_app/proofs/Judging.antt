@@ -1,4 +1,4 @@
--- What is due for a file, by what reading it, searching and printing gave.
+-- What a file states, by what reading it gave, and the nodes of a constant.
 use Rattle.std.proofs.Common.{◌≡◌, ◌≤◌, ◌<◌, ℕ, List, [], ◌∷◌, Option, Some, None, IfSome, MatchOption, option_map, length, codes, Contains, get_or, zero, suc, true, refl, sym, ap, ◌∙◌, subst, arith}
 use Rattle.std.specs.List.{list_any}
 use Rattle.std.proofs.lemmas.Bool.{true≢false}
@@ -9,12 +9,9 @@ use Rattle.sexpr_core.proofs.Once.{spells_once}
 use Rattle.term_core.specs.declared.tree.Tree.{Tree}
 use Rattle.term_core.specs.Terms.{node, kids_of, IsSubterm, itself, below, AreNodesOf}
 use Rattle.term_core.proofs.Parts.{kids_of-node}
-use Rattle.problem_core.specs.Problems.{Parts, IsAnswer}
+use Rattle.problem_core.specs.Problems.{Parts}
 use Rattle.semgus_app.specs.declared.problem.Problem.{Problem}
-use Rattle.semgus_app.specs.declared.status.Status.{Status}
-use Rattle.semgus_app.specs.declared.status.Status.TheVariants.{NoTerm}
 use Rattle.semgus_app.specs.Constants.{parts_of, HasConstants}
-use Rattle.semgus_app.specs.FileDues.{IsAnswerDue}
 use Rattle.semgus_app.specs.First.{first_of}
 use Rattle.semgus_app.specs.Statements.{is_unread, IsPlain, States, StatesNothing}
 
@@ -35,10 +32,6 @@ one_node con = record {
     λ sub. (let same : s ≡ node con [] = only_itself s (node con []) (kids_of-node con []) sub in (0, omega arith, sym same)),
   );
 }
-
--- a problem without an answer
-pub none_answer : (parts : Parts) (h n : ℕ) (s : Status) (text : List ℕ) → s ≡ NoTerm → text ≡ codes "none\n" → IsAnswer parts h n None → IsAnswerDue parts h n s text
-none_answer parts h n s text e t a = subst (λ (x : Status). IsAnswerDue parts h n x text) (sym e) (record { none = a; text_is = t })
 
 -- bytes with one of the three aren't plain
 pub not_plain : (bytes : List ℕ) → list_any is_unread bytes ≡ true → IsPlain bytes → ⊥

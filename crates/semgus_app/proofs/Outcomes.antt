@@ -1,198 +1,262 @@
--- What a run that ends with a status says of the counts and of the bytes of its file.
-use Rattle.std.proofs.Common.{◌≡◌, ◌⊎◌, ◌≤◌, ℕ, List, Option, Some, None, take, refl, sym, ap, ◌∙◌, subst, codes, inl, inr, arith}
-use Rattle.sexpr_core.proofs.Once.{spells_once}
-use Rattle.problem_core.specs.Problems.{Parts, IsAnswer}
-use Rattle.problem_core.proofs.Answers.{one_answer}
+-- What a run that printed the output of its task says of its status, the counts and the bytes of the files.
+use Rattle.std.proofs.Common.{◌≡◌, ◌≢◌, ◌⊎◌, ◌<◌, ◌+◌, ℕ, Bool, List, [], Option, Some, None, Ok, IsTrue, take, refl, sym, ap, ◌∙◌, subst, inl, inr, arith}
+use Rattle.std.specs.Option.{ForSome}
 use Rattle.semgus_io.specs.Counts.{Rises, Stays}
-use Rattle.term_core.specs.declared.tree.Tree.{Tree}
-use Rattle.semgus_app.specs.declared.status.Status.{Status}
-use Rattle.semgus_app.specs.declared.status.Status.TheVariants.{Found, NoTerm, BadWords, Refused, CannotOpen, ReadFault, WriteFault, Memory}
-use Rattle.semgus_app.specs.declared.status.Which.{Which}
-use Rattle.semgus_app.specs.declared.status.Fault.{Fault}
-use Rattle.semgus_app.specs.Commands.{IsSolve}
-use Rattle.semgus_app.specs.Dues.{IsJudged, HasCause}
 use Rattle.semgus_io.specs.Writes.{Grows, GrowsByPart}
-use Rattle.semgus_app.specs.FileDues.{IsDue, IsAnswerDue, IsAnswerText, IsNoneText, IsOutput, NoneRose, status_of, whole_refusal}
-use Rattle.semgus_app.specs.First.{first_of}
-use Rattle.semgus_app.specs.Statements.{States, StatesNothing}
+use Rattle.semgus_app.specs.declared.status.Status.{Status}
+use Rattle.semgus_app.specs.declared.status.Status.TheVariants as status
+use Rattle.semgus_app.specs.Dues.{IsDue}
+use Rattle.problem_core.specs.Problems.{Parts, IsAnswer}
+use Rattle.semgus_app.specs.Answers.{IsAnswerText}
+use Rattle.semgus_app.specs.Files.{Held, Inputs, AreRead, AreTold, Tell, WereRead, IsReached, as_problem}
+use Rattle.semgus_app.specs.Lines.{cannot_open_line, read_fault_line, none_line, line_of}
+use Rattle.semgus_app.specs.Statements.{Judges}
+use Rattle.semgus_app.specs.Outputs.{IsOutput, IsPrinted, NoneRose, due, cannot_open, read_fault}
+use Rattle.semgus_app.specs.Statuses.{IsJudged}
+use Rattle.semgus_app.specs.Tasks.{Task, NamedFile, Asks, solve, problem_file}
+use Rattle.semgus_app.proofs.Dues.{due_judged, due_with, found_due, none_due, due_line, some_same, none_some}
+use Rattle.semgus_app.proofs.Tasks.{one_task}
 
--- the words name one file
-pub same_file : (words : List (List ℕ)) (f g : List ℕ) (h k m n : ℕ) → IsSolve words f h m → IsSolve words g k n → f ≡ g
-same_file words f g h k m n a b = let both = sym a.words_are ∙ b.words_are in cc
-
--- the file states one problem
-pub one_statement : (bytes : List ℕ) (p q : Parts) → States bytes p → States bytes q → p ≡ q
-one_statement bytes p q a b =
-    let forms : a.forms ≡ b.forms = spells_once bytes a.forms b.forms a.spelled b.spelled in
-    let both : Some p ≡ Some q = sym a.stated ∙ ap first_of forms ∙ b.stated in
-    cc
-
-pub judged_counts : (s : Status) (text file : List ℕ) (o o' r r' : ℕ) → IsJudged s → HasCause s text file o o' r r' → (o' ≡ o) × (r' ≡ r)
-judged_counts Found text file o o' r r' j c = c
-judged_counts NoTerm text file o o' r r' j c = c
-judged_counts (Refused which fault) text file o o' r r' j c = c
-judged_counts BadWords text file o o' r r' j c = absurd j
-judged_counts CannotOpen text file o o' r r' j c = absurd j
-judged_counts ReadFault text file o o' r r' j c = absurd j
-judged_counts WriteFault text file o o' r r' j c = absurd j
-judged_counts Memory text file o o' r r' j c = absurd j
-
-pub found_due : (bytes : List ℕ) (h n : ℕ) (text : List ℕ) → IsDue bytes h n Found text → (parts : Parts) × States bytes parts × IsAnswerText parts h n text
-found_due bytes h n text d = elim d [ inl r ↦ absurd (let e = r.status_is in cc) | inr a ↦ a ]
-
-pub none_due : (bytes : List ℕ) (h n : ℕ) (text : List ℕ) → IsDue bytes h n NoTerm text → (parts : Parts) × States bytes parts × IsNoneText parts h n text
-none_due bytes h n text d = elim d [ inl r ↦ absurd (let e = r.status_is in cc) | inr a ↦ a ]
-
-pub refused_due : (bytes : List ℕ) (h n : ℕ) (which : Which) (fault : Fault) (text : List ℕ) → IsDue bytes h n (Refused which fault) text
-    → StatesNothing bytes × (Refused which fault ≡ whole_refusal) × (text ≡ codes "refused 0 13\n")
-refused_due bytes h n which fault text d = elim d [ inl r ↦ (r.nothing, r.status_is, r.text_is) | inr a ↦ absurd a.2 ]
-
-answer_due : (parts : Parts) (h n : ℕ) (s : Status) (text : List ℕ) (answer : Option Tree) → IsAnswerDue parts h n s text → IsAnswer parts h n answer → s ≡ status_of answer
-answer_due parts h n Found text None d a = let same : Some d.term ≡ None = one_answer parts h n (Some d.term) None d.first a in cc
-answer_due parts h n Found text (Some t) d a = refl
-answer_due parts h n NoTerm text None d a = refl
-answer_due parts h n NoTerm text (Some t) d a = let same : None ≡ Some t = one_answer parts h n None (Some t) d.none a in cc
-answer_due parts h n (Refused which fault) text answer d a = absurd d
-answer_due parts h n BadWords text answer d a = absurd d
-answer_due parts h n CannotOpen text answer d a = absurd d
-answer_due parts h n ReadFault text answer d a = absurd d
-answer_due parts h n WriteFault text answer d a = absurd d
-answer_due parts h n Memory text answer d a = absurd d
-
--- the status that is due for a file that states a problem with this answer
-pub status_due : (bytes : List ℕ) (h n : ℕ) (s : Status) (text : List ℕ) (parts : Parts) (answer : Option Tree) → IsDue bytes h n s text → States bytes parts → IsAnswer parts h n answer → s ≡ status_of answer
-status_due bytes h n s text parts answer d stated a = elim d [
-  | inl r ↦ absurd (r.nothing parts stated)
-  | inr due ↦ answer_due parts h n s text answer (subst (λ p. IsAnswerDue p h n s text) (one_statement bytes due.0 parts due.1 stated) due.2) a
-]
-
-pub refusal_due : (bytes : List ℕ) (h n : ℕ) (s : Status) (text : List ℕ) → IsDue bytes h n s text → StatesNothing bytes → s ≡ whole_refusal
-refusal_due bytes h n s text d nothing = elim d [ inl r ↦ r.status_is | inr due ↦ absurd (nothing due.0 due.1) ]
-
--- what a fault's count says rose didn't stay
-pub rose_stays : (old new : ℕ) → Rises old new → Stays old new → ⊥
+rose_stays : (old new : ℕ) → Rises old new → Stays old new → ⊥
 rose_stays old new r s = omega arith
 
--- where no count rose, the status is judged
-pub judged_if_none_rose : (s : Status) (text file : List ℕ) (o o' r r' : ℕ) → HasCause s text file o o' r r' → Stays o o' → Stays r r' → IsJudged s
-judged_if_none_rose Found text file o o' r r' c p q = tt
-judged_if_none_rose NoTerm text file o o' r r' c p q = tt
-judged_if_none_rose (Refused which fault) text file o o' r r' c p q = tt
-judged_if_none_rose BadWords text file o o' r r' c p q = c
-judged_if_none_rose CannotOpen text file o o' r r' c p q = rose_stays o o' c.0 p
-judged_if_none_rose ReadFault text file o o' r r' c p q = rose_stays r r' c.0 q
-judged_if_none_rose WriteFault text file o o' r r' c p q = c
-judged_if_none_rose Memory text file o o' r r' c p q = c
+-- bytes that were read are those that are told
+read_told : (held : Held) (file : NamedFile) (read told : List ℕ) → AreRead held file read → AreTold held file told → read ≡ told
+read_told held file read told r t =
+    let is = r (Some t.whole) t.told in
+    let both : Some t.whole ≡ Some is.0 = is.1 in
+    let same : t.whole ≡ is.0 = cc in
+    is.2 ∙ ap (λ whole. take (file.limit + 1) whole) (sym same) ∙ sym t.cut
 
--- what is printed for a file is its output
-pub output_due : (s : Status) (text file bytes : List ℕ) (h n o o' r r' : ℕ) → HasCause s text file o o' r r' → (IsJudged s → IsDue bytes h n s text) → IsOutput file bytes h n o o' r r' text
-output_due Found text file bytes h n o o' r r' c d = inr (inr (Found, d tt))
-output_due NoTerm text file bytes h n o o' r r' c d = inr (inr (NoTerm, d tt))
-output_due (Refused which fault) text file bytes h n o o' r r' c d = inr (inr (Refused which fault, d tt))
-output_due BadWords text file bytes h n o o' r r' c d = absurd c
-output_due CannotOpen text file bytes h n o o' r r' c d = inl (c.0, c.2)
-output_due ReadFault text file bytes h n o o' r r' c d = inr (inl (c.0, c.2))
-output_due WriteFault text file bytes h n o o' r r' c d = absurd c
-output_due Memory text file bytes h n o o' r r' c d = absurd c
+-- a file that isn't held isn't read
+absent_read : (held : Held) (file : NamedFile) (read : List ℕ) → AreRead held file read → held file.name ≡ Some None → ⊥
+absent_read held file read r e = let is = r None e in let both : None ≡ Some is.0 = is.1 in cc
 
--- what was printed, and the status of the print: all of the text, or a part of it where a put failed
-abbrev pub Printed : Status → Status → (puts puts' : ℕ) → Option (List ℕ) → Option (List ℕ) → List ℕ → Type 0
-Printed r s puts puts' w w' text = ((r ≡ s) × (puts' ≡ puts) × Grows w w' text) ⊎ ((r ≡ WriteFault) × Rises puts puts' × GrowsByPart w w' text)
+-- a file that is told is held
+told_held : (held : Held) (file : NamedFile) (bytes : List ℕ) → AreTold held file bytes → held file.name ≡ Some None → ⊥
+told_held held file bytes t e = let both : Some (Some t.whole) ≡ Some None = sym t.told ∙ e in let same : Some t.whole ≡ None = cc in cc
 
--- the text and the status are due for each file of these bytes
-abbrev pub DueFor : (List ℕ → Option (Option (List ℕ))) → List ℕ → Status → List ℕ → Type 0
-DueFor held file s text = IsJudged s → (bytes : List ℕ) (h n : ℕ) → held file ≡ Some (Some bytes) → 1 ≤ h → 1 ≤ n → IsDue (take 1048577 bytes) h n s text
+same_file : (o : Option NamedFile) (f g : NamedFile) → o ≡ Some f → o ≡ Some g → f ≡ g
+same_file o f g a b = let both : Some f ≡ Some g = sym a ∙ b in cc
 
--- a run over words that name a file, which printed what was due for it
-pub record Ran (words : List (List ℕ)) (held : List ℕ → Option (Option (List ℕ))) (r : Status) (o o' re re' puts puts' : ℕ) (w w' : Option (List ℕ)) : Type 0 where
-  pub file : List ℕ
-  pub height : ℕ
-  pub size : ℕ
-  pub solve : IsSolve words file height size
-  pub status : Status
+module _ (held : Held) (steady : Bool) (o o' r r' : ℕ) (task : Task) where
+  abbrev Output : Status → List ℕ → Type 0
+  Output s x = IsOutput held steady o o' r r' task s x
+
+  -- the status of an output is none of the others
+  output_other : (s : Status) (x : List ℕ) → Output s x → (s ≢ status.BadWords) × (s ≢ status.WriteFault) × (s ≢ status.Memory)
+  output_other s x (due inputs state text eo er read d) = let j = due_judged inputs task state text d in (j.no_bad_words, j.no_write_fault, j.no_want_of_memory)
+  output_other s x (cannot_open file a b c d) = (λ e. cc, λ e. cc, λ e. cc)
+  output_other s x (read_fault file a b c d e) = (λ f. cc, λ f. cc, λ f. cc)
+
+  pub record JudgedOutput (s : Status) (x : List ℕ) : Type 0 where
+    pub opens : o' ≡ o
+    pub reads : r' ≡ r
+    pub inputs : Inputs
+    pub read : WereRead held task inputs
+    pub due : IsDue inputs task s x
+
+  judged_output : (s : Status) (x : List ℕ) → Output s x → IsJudged s → JudgedOutput s x
+  judged_output s x (due inputs state text eo er read d) j = record { opens = eo; reads = er; inputs = inputs; read = read; due = d }
+  judged_output s x (cannot_open file a b c d) j = absurd (j.no_open_fault refl)
+  judged_output s x (read_fault file a b c d e) j = absurd (j.no_read_fault refl)
+
+  pub record ClosedOutput (x : List ℕ) : Type 0 where
+    pub opens : Rises o o'
+    pub reads : r' ≡ r
+    pub file : NamedFile
+    pub reached : IsReached held task file
+    pub steady_absent : IsTrue steady → held file.name ≡ Some None
+    pub line : x ≡ cannot_open_line file.name
+
+  closed_output : (s : Status) (x : List ℕ) → Output s x → s ≡ status.CannotOpen → ClosedOutput x
+  closed_output s x (due inputs state text eo er read d) e = absurd ((due_judged inputs task state text d).no_open_fault e)
+  closed_output s x (cannot_open file a b c d) e = record { opens = a; reads = b; file = file; reached = c; steady_absent = d; line = refl }
+  closed_output s x (read_fault file a b c d e) f = absurd cc
+
+  failed_output : (s : Status) (x : List ℕ) → Output s x → s ≡ status.ReadFault → Rises r r' × (o' ≡ o) × (¬ IsTrue steady) × (x ≡ read_fault_line)
+  failed_output s x (due inputs state text eo er read d) e = absurd ((due_judged inputs task state text d).no_read_fault e)
+  failed_output s x (cannot_open file a b c d) e = absurd cc
+  failed_output s x (read_fault file a b c d e) f = (a, b, e, refl)
+
+  output_line : (s : Status) (x : List ℕ) → Output s x → (line : List ℕ) → line_of s ≡ Some line → x ≡ line
+  output_line s x (due inputs state text eo er read d) line e = due_line inputs task state text d line e
+  output_line s x (cannot_open file a b c d) line e = absurd (none_some line e)
+  output_line s x (read_fault file a b c d e) line f = some_same _ line f
+
+  -- the counts decide
+  opens_output : (s : Status) (x : List ℕ) → Output s x → o < o' → s ≡ status.CannotOpen
+  opens_output s x (due inputs state text eo er read d) l = absurd (omega (arith, eo, l))
+  opens_output s x (cannot_open file a b c d) l = refl
+  opens_output s x (read_fault file a b c d e) l = absurd (omega (arith, b, l))
+
+  reads_output : (s : Status) (x : List ℕ) → Output s x → r < r' → s ≡ status.ReadFault
+  reads_output s x (due inputs state text eo er read d) l = absurd (omega (arith, er, l))
+  reads_output s x (cannot_open file a b c d) l = absurd (omega (arith, b, l))
+  reads_output s x (read_fault file a b c d e) l = refl
+
+  -- the problem file isn't held
+  absent_reached : (file other : NamedFile) → problem_file task ≡ Some file → held file.name ≡ Some None → IsReached held task other → held other.name ≢ Some None → ⊥
+  absent_reached file other named absent (as_problem e) there = there (subst (λ (f : NamedFile). held f.name ≡ Some None) (same_file (problem_file task) file other named e) absent)
+
+  absent_output : (s : Status) (x : List ℕ) → Output s x → (file : NamedFile) → problem_file task ≡ Some file → held file.name ≡ Some None → s ≡ status.CannotOpen
+  absent_output s x (due inputs state text eo er read d) file named absent = absurd (absent_read held file inputs.problem (read.problem file named) absent)
+  absent_output s x (cannot_open f a b c d) file named absent = refl
+  absent_output s x (read_fault f a b c d e) file named absent = absurd (absent_reached file f named absent c d)
+
+  -- what was read is told
+  judged_told : (s : Status) (x : List ℕ) (inputs : Inputs) → JudgedOutput s x → Tell held task inputs → IsDue inputs task s x
+  judged_told s x inputs j tell =
+      due_with j.inputs inputs task s x
+      (λ file named. read_told held file j.inputs.problem inputs.problem (j.read.problem file named) (tell.problem file named))
+      j.due
+
+  -- no file that is reached is absent, where the files tell those of the task
+  told_reached : (inputs : Inputs) (file : NamedFile) → Tell held task inputs → IsReached held task file → held file.name ≡ Some None → ⊥
+  told_reached inputs file tell (as_problem e) absent = told_held held file inputs.problem (tell.problem file e) absent
+
+-- the line of the status is printed, where it has one
+pub printed_line : (result : Status) (f f' : ℕ) (w w' : Option (List ℕ)) (state : Status) (text : List ℕ) → IsPrinted result f f' w w' state text
+    → ((line : List ℕ) → line_of state ≡ Some line → text ≡ line) → ForSome (line_of result) (λ line. Grows w w' line)
+printed_line result f f' w w' state text printed is line e = elim printed [
+  | inl a ↦ subst (λ (t : List ℕ). Grows w w' t) (is line (sym (ap line_of a.0) ∙ e)) a.2
+  | inr b ↦ absurd (none_some line (sym (ap line_of b.0) ∙ e))
+]
+
+-- a run over words that ask for a task, which printed its output
+pub record Ran (words : List (List ℕ)) (held : Held) (steady : Bool) (o o' r r' : ℕ) (result : Status) (f f' : ℕ) (w w' : Option (List ℕ)) : Type 0 where
+  pub task : Task
+  pub asks : Asks words task
+  pub state : Status
   pub text : List ℕ
-  pub cause : HasCause status text file o o' re re'
-  pub due : DueFor held file status text
-  pub printed : Printed r status puts puts' w w' text
+  pub output : IsOutput held steady o o' r r' task state text
+  pub printed : IsPrinted result f f' w w' state text
 
-module _ (words : List (List ℕ)) (held : List ℕ → Option (Option (List ℕ))) (r : Status) (o o' re re' puts puts' : ℕ) (w w' : Option (List ℕ)) (run : Ran words held r o o' re re' puts puts' w w') where
-  cause_at : (s : Status) → run.status ≡ s → HasCause s run.text run.file o o' re re'
-  cause_at s e = subst (λ x. HasCause x run.text run.file o o' re re') e run.cause
+module _ (words : List (List ℕ)) (held : Held) (steady : Bool) (o o' r r' : ℕ) (result : Status) (f f' : ℕ) (w w' : Option (List ℕ))
+    (ran : Ran words held steady o o' r r' result f f' w w') where
+  output_of : (task : Task) → Asks words task → IsOutput held steady o o' r r' task ran.state ran.text
+  output_of task asks = subst (λ (t : Task). IsOutput held steady o o' r r' t ran.state ran.text) (one_task words ran.task task ran.asks asks) ran.output
 
-  due_at : (s : Status) → run.status ≡ s → DueFor held run.file s run.text
-  due_at s e = subst (λ x. DueFor held run.file x run.text) e run.due
+  pub output_clause : (task : Task) → Asks words task → (result ≡ status.Memory) ⊎ ((state : Status) × (text : List ℕ) × IsOutput held steady o o' r r' task state text × IsPrinted result f f' w w' state text)
+  output_clause task asks = inr (ran.state, ran.text, output_of task asks, ran.printed)
 
-  -- the file's bytes, under the name that the words give it
-  told : (f bytes : List ℕ) (h n : ℕ) → IsSolve words f h n → held f ≡ Some (Some bytes) → held run.file ≡ Some (Some bytes)
-  told f bytes h n solve e = ap held (same_file words run.file f run.height h run.size n run.solve solve) ∙ e
+  others : (ran.state ≢ status.BadWords) × (ran.state ≢ status.WriteFault) × (ran.state ≢ status.Memory)
+  others = output_other held steady o o' r r' ran.task ran.state ran.text ran.output
 
-  pub found_clause : r ≡ Found → NoneRose o o' re re' puts puts'
-      × ((f bytes : List ℕ) (h n : ℕ) → IsSolve words f h n → held f ≡ Some (Some bytes) → (parts : Parts) × (text : List ℕ) × States (take 1048577 bytes) parts × IsAnswerText parts h n text × Grows w w' text)
-  found_clause e = elim run.printed [
+  -- what was printed whole
+  whole : result ≢ status.WriteFault → (ran.state ≡ result) × (f' ≡ f) × Grows w w' ran.text
+  whole wrote = elim ran.printed [ inl a ↦ (sym a.0, a.1, a.2) | inr b ↦ absurd (wrote b.0) ]
+
+  pub bad_words_clause : result ≡ status.BadWords → ⊥
+  bad_words_clause e = let a = whole (λ g. cc) in others.0 (a.0 ∙ e)
+
+  pub due_clause : IsJudged result → NoneRose o o' r r' f f' × ((task : Task) (inputs : Inputs) → Asks words task → Tell held task inputs → (text : List ℕ) × IsDue inputs task result text × Grows w w' text)
+  due_clause j =
+      let a = whole j.no_write_fault in
+      let at : (task : Task) → Asks words task → JudgedOutput held steady o o' r r' task result ran.text =
+      λ task asks. judged_output held steady o o' r r' task result ran.text (subst (λ (s : Status). IsOutput held steady o o' r r' task s ran.text) a.0 (output_of task asks)) j in
+      let counts = at ran.task ran.asks in (
+        (counts.opens, counts.reads, a.1),
+        λ task inputs asks tell.
+            (ran.text, judged_told held steady o o' r r' task result ran.text inputs (at task asks) tell, a.2),
+      )
+
+  pub cannot_open_clause : result ≡ status.CannotOpen → Rises o o' × (r' ≡ r) × (f' ≡ f)
+      × ((task : Task) → Asks words task → (file : NamedFile) × IsReached held task file × (IsTrue steady → held file.name ≡ Some None) × Grows w w' (cannot_open_line file.name))
+  cannot_open_clause e =
+      let a = whole (λ g. cc) in
+      let at : (task : Task) → Asks words task → ClosedOutput held steady o o' r r' task ran.text =
+      λ task asks. closed_output held steady o o' r r' task ran.state ran.text (output_of task asks) (a.0 ∙ e) in
+      let counts = at ran.task ran.asks in (
+        counts.opens,
+        counts.reads,
+        a.1,
+        λ task asks. (let c = at task asks in (c.file, c.reached, c.steady_absent, subst (λ (text : List ℕ). Grows w w' text) c.line a.2)),
+      )
+
+  pub read_fault_clause : result ≡ status.ReadFault → Rises r r' × (o' ≡ o) × (f' ≡ f) × (¬ IsTrue steady) × Grows w w' read_fault_line
+  read_fault_clause e =
+      let a = whole (λ g. cc) in
+      let c = failed_output held steady o o' r r' ran.task ran.state ran.text ran.output (a.0 ∙ e) in
+      (c.0, c.1, a.1, c.2, subst (λ (text : List ℕ). Grows w w' text) c.3 a.2)
+
+  pub write_fault_clause : result ≡ status.WriteFault → Rises f f'
+  write_fault_clause e = elim ran.printed [ inl a ↦ absurd (others.1 (sym a.0 ∙ e)) | inr b ↦ b.1 ]
+
+  pub writes_clause : f < f' → result ≡ status.WriteFault
+  writes_clause l = elim ran.printed [ inl a ↦ absurd (let same = a.1 in omega (arith, same, l)) | inr b ↦ b.0 ]
+
+  -- the status that the output has, unless a write failed
+  state_or_fault : (s : Status) → ran.state ≡ s → (result ≡ s) ⊎ ((result ≡ status.WriteFault) ⊎ (result ≡ status.Memory))
+  state_or_fault s e = elim ran.printed [ inl a ↦ inl (a.0 ∙ e) | inr b ↦ inr (inl b.0) ]
+
+  pub reads_clause : r < r' → (result ≡ status.ReadFault) ⊎ ((result ≡ status.WriteFault) ⊎ (result ≡ status.Memory))
+  reads_clause l = state_or_fault status.ReadFault (reads_output held steady o o' r r' ran.task ran.state ran.text ran.output l)
+
+  pub opens_clause : o < o' → (result ≡ status.CannotOpen) ⊎ ((result ≡ status.WriteFault) ⊎ (result ≡ status.Memory))
+  opens_clause l = state_or_fault status.CannotOpen (opens_output held steady o o' r r' ran.task ran.state ran.text ran.output l)
+
+  pub absent_clause : (task : Task) (file : NamedFile) → Asks words task → problem_file task ≡ Some file → held file.name ≡ Some None
+      → (result ≡ status.CannotOpen) ⊎ ((result ≡ status.WriteFault) ⊎ (result ≡ status.Memory))
+  absent_clause task file asks named absent = state_or_fault status.CannotOpen (absent_output held steady o o' r r' task ran.state ran.text (output_of task asks) file named absent)
+
+  -- no file that the task names is absent, where the files tell those of the task
+  pub told_clause : (task : Task) (inputs : Inputs) → Asks words task → Tell held task inputs → IsTrue steady → result ≢ status.CannotOpen
+  told_clause task inputs asks tell is e =
+      let a = whole (λ g. cc) in
+      let c = closed_output held steady o o' r r' task ran.state ran.text (output_of task asks) (a.0 ∙ e) in
+      told_reached held steady o o' r r' task inputs c.file tell c.reached (c.steady_absent is)
+
+  -- the output is judged where no count of reads and opens rose, or the files are steady
+  judged_state : (task : Task) (inputs : Inputs) (s : Status) (x : List ℕ) → IsOutput held steady o o' r r' task s x → Tell held task inputs
+      → (Stays o o' × Stays r r') ⊎ IsTrue steady → IsJudged s
+  judged_state task inputs s x (due read state text eo er were d) tell calm = due_judged read task state text d
+  judged_state task inputs s x (cannot_open file a b c d) tell calm = elim calm [
+    | inl stays ↦ absurd (rose_stays o o' a stays.0)
+    | inr is ↦ absurd (told_reached held steady o o' r r' task inputs file tell c (d is))
+  ]
+  judged_state task inputs s x (read_fault file a b c d e) tell calm = elim calm [
+    | inl stays ↦ absurd (rose_stays r r' a stays.1)
+    | inr is ↦ absurd (e is)
+  ]
+
+  pub complete_clause : (task : Task) (inputs : Inputs) → Asks words task → Tell held task inputs → (Stays o o' × Stays r r') ⊎ IsTrue steady → Stays f f'
+      → (result ≡ status.Memory) ⊎ ((text : List ℕ) × IsDue inputs task result text × Grows w w' text)
+  complete_clause task inputs asks tell calm stays = elim ran.printed [
     | inl a ↦ (
-        let same : run.status ≡ Found = sym a.0 ∙ e in
-        let counts = cause_at Found same in (
-          (counts.0, counts.1, a.1),
-          λ f bytes h n solve t.
-              (let d = found_due (take 1048577 bytes) h n run.text (due_at Found same tt bytes h n (told f bytes h n solve t) solve.height_low solve.size_low) in
-              (d.0, run.text, d.1, d.2, a.2)),
-        ))
-    | inr b ↦ absurd (let fault = b.0 in cc)
+        let out = output_of task asks in
+        let j = judged_state task inputs ran.state ran.text out tell calm in
+        let mine = judged_told held steady o o' r r' task ran.state ran.text inputs (judged_output held steady o o' r r' task ran.state ran.text out j) tell in
+        inr (ran.text, subst (λ (s : Status). IsDue inputs task s ran.text) (sym a.0) mine, a.2))
+    | inr b ↦ absurd (rose_stays f f' b.1 stays)
   ]
 
-  pub none_clause : r ≡ NoTerm → NoneRose o o' re re' puts puts'
-      × ((f bytes : List ℕ) (h n : ℕ) → IsSolve words f h n → held f ≡ Some (Some bytes) → (parts : Parts) × States (take 1048577 bytes) parts × IsAnswer parts h n None × Grows w w' (codes "none\n"))
-  none_clause e = elim run.printed [
-    | inl a ↦ (
-        let same : run.status ≡ NoTerm = sym a.0 ∙ e in
-        let counts = cause_at NoTerm same in (
-          (counts.0, counts.1, a.1),
-          λ f bytes h n solve t.
-              (let d = none_due (take 1048577 bytes) h n run.text (due_at NoTerm same tt bytes h n (told f bytes h n solve t) solve.height_low solve.size_low) in
-              (d.0, d.1, d.2.none, subst (λ x. Grows w w' x) d.2.text_is a.2)),
-        ))
-    | inr b ↦ absurd (let fault = b.0 in cc)
-  ]
+  -- the files of `solve` tell what its one file holds
+  solve_tells : (file bytes : List ℕ) (height size : ℕ) → held file ≡ Some (Some bytes) → Tell held (solve file height size) (record { problem = take 1048577 bytes })
+  solve_tells file bytes height size told = record {
+    problem = λ named e. (
+        let same = same_file (problem_file (solve file height size)) (record { name = file; limit = 1048576 }) named refl e in
+        subst (λ (n : NamedFile). AreTold held n (take 1048577 bytes)) same (record { whole = bytes; told = told; cut = refl }));
+  }
 
-  pub refused_clause : (which : Which) (fault : Fault) → r ≡ Refused which fault → NoneRose o o' re re' puts puts' × ((f bytes : List ℕ) (h n : ℕ) → IsSolve words f h n → held f ≡ Some (Some bytes) → StatesNothing (take 1048577 bytes) × (r ≡ whole_refusal) × Grows w w' (codes "refused 0 13\n"))
-  refused_clause which fault e = elim run.printed [
-    | inl a ↦ (
-        let same : run.status ≡ Refused which fault = sym a.0 ∙ e in
-        let counts = cause_at (Refused which fault) same in (
-          (counts.0, counts.1, a.1),
-          λ f bytes h n solve t.
-              (let d = refused_due (take 1048577 bytes) h n which fault run.text (due_at (Refused which fault) same tt bytes h n (told f bytes h n solve t) solve.height_low solve.size_low) in
-              (d.0, e ∙ d.1, subst (λ x. Grows w w' x) d.2 a.2)),
-        ))
-    | inr b ↦ absurd (let put = b.0 in cc)
-  ]
+  pub found_clause : result ≡ status.Found → (file bytes : List ℕ) (height size : ℕ) → Asks words (solve file height size) → held file ≡ Some (Some bytes)
+      → (p : Parts) × (text : List ℕ) × Judges (take 1048577 bytes) (Ok p) × IsAnswerText p height size text × Grows w w' text
+  found_clause e file bytes height size asks told =
+      let j : IsJudged result = record { no_bad_words = λ g. cc; no_open_fault = λ g. cc; no_read_fault = λ g. cc; no_write_fault = λ g. cc; no_want_of_memory = λ g. cc } in
+      let d = (due_clause j).1 (solve file height size) (record { problem = take 1048577 bytes }) asks (solve_tells file bytes height size told) in
+      let is = found_due (record { problem = take 1048577 bytes }) (solve file height size) result d.0 d.1 file height size refl e in
+      (is.0, d.0, is.1, is.2, d.2)
 
-  pub answered_clause : (f bytes : List ℕ) (h n : ℕ) (parts : Parts) (answer : Option Tree) → IsSolve words f h n → held f ≡ Some (Some bytes) → States (take 1048577 bytes) parts → IsAnswer parts h n answer
-      → Stays o o' → Stays re re' → Stays puts puts' → (r ≡ status_of answer) ⊎ (r ≡ Memory)
-  answered_clause f bytes h n parts answer solve t stated a opens reads writes = elim run.printed [
-    | inl p ↦ (
-        let judged = judged_if_none_rose run.status run.text run.file o o' re re' run.cause opens reads in
-        let d = run.due judged bytes h n (told f bytes h n solve t) solve.height_low solve.size_low in
-        inl (p.0 ∙ status_due (take 1048577 bytes) h n run.status run.text parts answer d stated a))
-    | inr b ↦ absurd (rose_stays puts puts' b.1 writes)
-  ]
+  pub no_term_clause : result ≡ status.NoTerm → (file bytes : List ℕ) (height size : ℕ) → Asks words (solve file height size) → held file ≡ Some (Some bytes)
+      → (p : Parts) × Judges (take 1048577 bytes) (Ok p) × IsAnswer p height size None × Grows w w' none_line
+  no_term_clause e file bytes height size asks told =
+      let j : IsJudged result = record { no_bad_words = λ g. cc; no_open_fault = λ g. cc; no_read_fault = λ g. cc; no_write_fault = λ g. cc; no_want_of_memory = λ g. cc } in
+      let d = (due_clause j).1 (solve file height size) (record { problem = take 1048577 bytes }) asks (solve_tells file bytes height size told) in
+      let is = none_due (record { problem = take 1048577 bytes }) (solve file height size) result d.0 d.1 file height size refl e in
+      (is.0, is.1, is.2, subst (λ (text : List ℕ). Grows w w' text) is.3 d.2)
 
-  pub refusal_clause : (f bytes : List ℕ) (h n : ℕ) → IsSolve words f h n → held f ≡ Some (Some bytes) → StatesNothing (take 1048577 bytes)
-      → Stays o o' → Stays re re' → Stays puts puts' → (r ≡ whole_refusal) ⊎ (r ≡ Memory)
-  refusal_clause f bytes h n solve t nothing opens reads writes = elim run.printed [
-    | inl p ↦ (
-        let judged = judged_if_none_rose run.status run.text run.file o o' re re' run.cause opens reads in
-        let d = run.due judged bytes h n (told f bytes h n solve t) solve.height_low solve.size_low in
-        inl (p.0 ∙ refusal_due (take 1048577 bytes) h n run.status run.text d nothing))
-    | inr b ↦ absurd (rose_stays puts puts' b.1 writes)
-  ]
+  pub memory_clause : result ≡ status.Memory → ⊥
+  memory_clause e = let a = whole (λ g. cc) in others.2 (a.0 ∙ e)
 
-  pub due_part_clause : r ≡ WriteFault → (f bytes : List ℕ) (h n : ℕ) → IsSolve words f h n → held f ≡ Some (Some bytes)
-      → (text : List ℕ) × IsOutput f (take 1048577 bytes) h n o o' re re' text × GrowsByPart w w' text
-  due_part_clause e f bytes h n solve t = elim run.printed [
-    | inl a ↦ absurd (cause_at WriteFault (sym a.0 ∙ e))
-    | inr b ↦ (
-        let name = same_file words run.file f run.height h run.size n run.solve solve in
-        let output = output_due run.status run.text run.file (take 1048577 bytes) h n o o' re re' run.cause (λ j. run.due j bytes h n (told f bytes h n solve t) solve.height_low solve.size_low) in
-        (run.text, subst (λ x. IsOutput x (take 1048577 bytes) h n o o' re re' run.text) name output, b.2))
-  ]
+  pub line_clause : ForSome (line_of result) (λ line. Grows w w' line)
+  line_clause = printed_line result f f' w w' ran.state ran.text ran.printed (output_line held steady o o' r r' ran.task ran.state ran.text ran.output)

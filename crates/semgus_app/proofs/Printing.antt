@@ -14,8 +14,8 @@ use Rattle.sig_core.specs.Signatures.{Declarations}
 use Rattle.term_core.specs.declared.tree.Tree.TheFolds.{fold-roll-Tree}
 use Rattle.term_core.specs.Banks.{tree_of}
 use Rattle.term_core.specs.Terms.{node, size, term_cmp}
-use Rattle.deriv_core.specs.declared.steps.Step.{Step}
-use Rattle.deriv_core.specs.declared.steps.StepId.{StepId}
+use Rattle.deriv_core.specs.declared.parts.Step.{Step}
+use Rattle.deriv_core.specs.declared.parts.StepId.{StepId}
 use Rattle.deriv_core.specs.Steps.{tree_steps}
 use Rattle.semgus_app.specs.AnswerText.{word, ending, list_text, spaced, constructor_text, constructor_name, term_text, term_text_step, place_of_node, numbered_lines, node_line, step_text, step_line, derived_line, heading_text, answer_text}
 use Rattle.semgus_app.specs.Derivations.{IsOnConstant}

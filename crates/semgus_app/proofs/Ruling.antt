@@ -12,7 +12,7 @@ use Rattle.sig_core.specs.declared.ids.ConId.{ConId}
 use Rattle.sig_core.specs.declared.ids.RelId.{RelId}
 use Rattle.sig_core.specs.declared.value.Value.{Value}
 use Rattle.sig_core.specs.declared.value.Value.TheVariants as value
-use Rattle.sig_core.specs.Values.{same_value, sort_of}
+use Rattle.sig_core.specs.Values.{same_value, sort_of, is_value}
 use Rattle.sig_core.specs.Signatures.{Declarations, kinds_of, plain_sorts}
 use Rattle.expr_core.specs.Expressions.{value_of}
 use Rattle.term_core.specs.Terms.{node}
@@ -87,14 +87,14 @@ pub whole_values : (sig : Declarations) (relation : RelId) (values : List Value)
 whole_values sig relation values sorted = take_all (length (plain_sorts (kinds_of sig relation))) values (omega (arith, ap length sorted, length-map values sort_of))
 
 pub derived : (sig : Declarations) (rules : List Rule) (h : ℕ) (relation : RelId) (con : ConId) (values : List Value) (i : ℕ) (rule : Rule) → All IsPlain rules
-    → map sort_of values ≡ plain_sorts (kinds_of sig relation) → slice_get (rules_for rules relation con) i ≡ Some rule → All (Holds values) rule.atoms
+    → map sort_of values ≡ plain_sorts (kinds_of sig relation) → list_all is_value values ≡ true → slice_get (rules_for rules relation con) i ≡ Some rule → All (Holds values) rule.atoms
     → Within sig rules (suc h) (record { relation = relation; term = node con []; args = values })
-derived sig rules h relation con values i rule all sorted listed hold = record {
+derived sig rules h relation con values i rule all sorted ranged listed hold = record {
   number = i;
   rule = rule;
   listed = ap (λ o. slice_get (rules_for rules relation o.con) i) (out-node con []) ∙ listed;
   slots = values;
-  is_instance = record { sorted = sorted ∙ sym (slots_at sig rules relation con i rule all listed); holds = hold };
+  is_instance = record { sorted = sorted ∙ sym (slots_at sig rules relation con i rule all listed); in_range = ranged; holds = hold };
   args = whole_values sig relation values sorted;
   calls = let Q : Call → Type 0 = CallMeets (Within sig rules h) sig (node con []) values in subst (All Q) (sym (plain_at rules relation con i rule all listed).1) (All-nil Q);
 }
@@ -133,11 +133,11 @@ numbered rules relation con values i e =
     (item.0, item.1, (all_hold-Decides values item.0.atoms).0 passes)
 
 pub meets-within : (sig : Declarations) (rules : List Rule) (h : ℕ) (con : ConId) (constraint : Constraint) → All IsPlain rules
-    → map sort_of constraint.args ≡ plain_sorts (kinds_of sig constraint.relation) → meets rules con constraint ≡ true → Within sig rules (suc h) (fact_on (node con []) constraint)
-meets-within sig rules h con constraint all sorted e =
+    → map sort_of constraint.args ≡ plain_sorts (kinds_of sig constraint.relation) → list_all is_value constraint.args ≡ true → meets rules con constraint ≡ true → Within sig rules (suc h) (fact_on (node con []) constraint)
+meets-within sig rules h con constraint all sorted ranged e =
     let number = some_of (rule_number rules constraint.relation con constraint.args) e in
     let rule = numbered rules constraint.relation con constraint.args number.0 number.1 in
-    derived sig rules h constraint.relation con constraint.args number.0 rule.0 all sorted rule.1 rule.2
+    derived sig rules h constraint.relation con constraint.args number.0 rule.0 all sorted ranged rule.1 rule.2
 
 pub within-meets : (sig : Declarations) (rules : List Rule) (h : ℕ) (con : ConId) (constraint : Constraint) → All IsPlain rules
     → Within sig rules (suc h) (fact_on (node con []) constraint) → meets rules con constraint ≡ true

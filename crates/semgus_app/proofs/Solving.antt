@@ -5,7 +5,7 @@ use Rattle.std.specs.declared.cmp.Ordering.TheVariants.{Less}
 use Rattle.std.proofs.lemmas.Bool.{true≢false}
 use Rattle.std.proofs.lemmas.Bool.Decides.{Decides-by_and}
 use Rattle.sig_core.specs.declared.ids.ConId.{ConId}
-use Rattle.sig_core.specs.Values.{sort_of}
+use Rattle.sig_core.specs.Values.{sort_of, is_value}
 use Rattle.sig_core.specs.Signatures.{kinds_of, plain_sorts}
 use Rattle.term_core.specs.declared.tree.Tree.{Tree}
 use Rattle.term_core.specs.Terms.{node, con_of, term_cmp}
@@ -19,10 +19,10 @@ use Rattle.semgus_app.proofs.Constants.{is_of_language, is_constant, size-consta
 use Rattle.semgus_app.proofs.Ruling.{meets-within, within-meets}
 
 -- each constraint and its sorts
-met : (p : Parts) (con : ConId) (h : ℕ) → HasConstants p → (cs : List Constraint) → All (λ c. map sort_of c.args ≡ plain_sorts (kinds_of p.signature c.relation)) cs
+met : (p : Parts) (con : ConId) (h : ℕ) → HasConstants p → (cs : List Constraint) → All (λ c. map sort_of c.args ≡ plain_sorts (kinds_of p.signature c.relation)) cs → All (λ c. list_all is_value c.args ≡ true) cs
     → list_all (meets p.rules con) cs ≡ true → All (λ c. Within p.signature p.rules (suc h) (fact_on (node con []) c)) cs
-met p con h has cs sorted e = λ k d below.
-    meets-within p.signature p.rules h con _ has.rules (sorted k d below) ((Decides-by_and (meets p.rules con) (λ c. meets p.rules con c ≡ true) (list_all (meets p.rules con)) (λ c. ((λ t. t), (λ t. t))) refl (λ _ _. refl) cs).0 e k d below)
+met p con h has cs sorted ranged e = λ k d below.
+    meets-within p.signature p.rules h con _ has.rules (sorted k d below) (ranged k d below) ((Decides-by_and (meets p.rules con) (λ c. meets p.rules con c ≡ true) (list_all (meets p.rules con)) (λ c. ((λ t. t), (λ t. t))) refl (λ _ _. refl) cs).0 e k d below)
 
 unmet : (p : Parts) (con : ConId) (h : ℕ) → HasConstants p → (cs : List Constraint) → All (λ c. Within p.signature p.rules (suc h) (fact_on (node con []) c)) cs → list_all (meets p.rules con) cs ≡ true
 unmet p con h has cs all =
@@ -33,7 +33,7 @@ pub solution : (p : Parts) (con : ConId) (h n : ℕ) → HasConstants p → 1 �
 solution p con h n has le below e = record {
   member = subst (λ g. Lang g start (node con [])) (sym has.grammar) (is_of_language p.signature has.constants con below);
   small = omega (arith, size-constant con);
-  solves = met p con h has p.constraints has.sorted e;
+  solves = met p con h has p.constraints has.sorted has.in_range e;
 }
 
 abbrev IsSolvedBy : Parts → Tree → Type 0

@@ -1,5 +1,6 @@
 -- What is known of a problem that the commands of a file of the first form state.
 use Rattle.std.proofs.Common.{◌≡◌, ℕ, ◌+◌, ◌<◌, Bool, true, false, ◌&&◌, List, [], ◌∷◌, ◌++◌, length, map, Option, Some, None, All, option_map, refl, sym, ap, ◌∙◌, subst, inl, inr, if◌then◌else◌, ◌⊎◌, arith}
+use Rattle.std.specs.List.{list_all}
 use Rattle.std.specs.Prelude.{nat_eq, nat_lt, IfSome, slice_get}
 use Rattle.std.proofs.lemmas.Bool.{eqb-true}
 use Rattle.std.proofs.lemmas.List.{length-append}
@@ -8,7 +9,7 @@ use Rattle.sig_core.specs.declared.value.Value.{Value}
 use Rattle.sig_core.specs.declared.value.Sort.{Sort}
 use Rattle.sig_core.specs.declared.value.Sort.TheVariants as sort
 use Rattle.sig_core.specs.Lists.{all_some}
-use Rattle.sig_core.specs.Values.{sort_of}
+use Rattle.sig_core.specs.Values.{sort_of, is_value}
 use Rattle.sig_core.specs.Signatures.{Declarations, kinds_of, plain_sorts}
 use Rattle.sig_core.specs.Refusals.{with_relation}
 use Rattle.rule_core.specs.declared.rule.Rule.{Rule}
@@ -20,7 +21,8 @@ use Rattle.semgus_app.specs.declared.problem.Problem.{Problem}
 use Rattle.semgus_app.specs.declared.first.heading.Heading.{Heading}
 use Rattle.semgus_app.specs.declared.first.functions.Defined.{Defined}
 use Rattle.semgus_app.specs.Constants.{the_type, parts_of, HasConstants}
-use Rattle.semgus_app.specs.Shapes.{when, ◌>>=◌, constant_of, items_of, numeral_of}
+use Rattle.sexpr_core.specs.Access.{items_of, numeral_of}
+use Rattle.semgus_app.specs.Shapes.{when, ◌>>=◌, constant_of}
 use Rattle.semgus_app.specs.First.{the_relation, constant_named, with_constant, with_constants, with_the_type, type_parts_of, types_of, case_of, case_parts_of, rule_with, cases_of, def_in, few_rules, rules_in, with_accepted, with_heading, relation_of, input_param, output_param, function_parts_of, decl_in, defined_with, functions_of, value_of_digits, number_from, number_of, values_of, example_in, constraint_in, constraint_with, constraint_of, constraints_of, few_constraints, some_constraints, stated, stated_by, defined_by, wanted_of, first_of, is_check}
 
 bound : {A B : Type 0} (o : Option A) (f : A → Option B) (y : B) → (o >>= f) ≡ Some y → (x : A) × (o ≡ Some x) × (f x ≡ Some y)
@@ -171,6 +173,21 @@ sorts_of_values (form ∷ forms) vs h =
     let m = firsts (number_of form) (map number_of forms) vs h in
     ap (map sort_of) (sym m.4) ∙ ap (λ s. s ∷ map sort_of m.1) (sort_of_number form m.0 m.2) ∙ ap (λ ss. sort.Int ∷ ss) (sorts_of_values forms m.1 m.3)
 
+is_value_of_digits : (digits : List ℕ) (v : Value) → value_of_digits digits ≡ Some v → is_value v ≡ true
+unfolding value_of_digits
+is_value_of_digits digits v h =
+    let t = tested (nat_lt (number_from 0 digits) _) _ v h in
+    ap is_value (sym (same_value _ v t.1)) ∙ t.0
+
+is_value_of_number : (form : Sexpr) (v : Value) → number_of form ≡ Some v → is_value v ≡ true
+is_value_of_number form v h = let b = bound (numeral_of form) value_of_digits v h in is_value_of_digits b.0 v b.2
+
+are_values : (forms : List Sexpr) (vs : List Value) → values_of forms ≡ Some vs → list_all is_value vs ≡ true
+are_values [] vs h = ap (list_all is_value) (sym (same_value [] vs h))
+are_values (form ∷ forms) vs h =
+    let m = firsts (number_of form) (map number_of forms) vs h in
+    ap (list_all is_value) (sym m.4) ∙ ap (λ b. b && list_all is_value m.1) (is_value_of_number form m.0 m.2) ∙ are_values forms m.1 m.3
+
 sorts_of_params : (inputs : List (List ℕ)) (output : List ℕ) → plain_sorts (map (λ p. p.kind) (map input_param inputs ++ output_param output ∷ [])) ≡ ints (inputs ++ output ∷ [])
 sorts_of_params [] output = refl
 sorts_of_params (name ∷ names) output = ap (λ ss. sort.Int ∷ ss) (sorts_of_params names output)
@@ -179,6 +196,7 @@ sorts_of_params (name ∷ names) output = ap (λ ss. sort.Int ∷ ss) (sorts_of_
 record Fits_heading (heading : Heading) (c : Constraint) : Type 0 where
   relation : c.relation ≡ the_relation
   sorted : map sort_of c.args ≡ ints (heading.inputs ++ heading.output ∷ [])
+  in_range : list_all is_value c.args ≡ true
 
 counted : (heading : Heading) (wanted : List ℕ) (forms numbers : List Sexpr) → example_in heading wanted forms ≡ Some numbers → length numbers ≡ length heading.inputs + 1
 counted heading wanted [] numbers h = absurd (cc)
@@ -207,6 +225,7 @@ Fits-constraint heading wanted form c h =
     subst (Fits_heading heading) m.2 (record {
       relation = refl;
       sorted = sorts_of_values d.0 m.0 m.1 ∙ same_ints d.0 (heading.inputs ++ heading.output ∷ []) (omega (arith, size, length-append heading.inputs (heading.output ∷ [])));
+      in_range = are_values d.0 m.0 m.1;
     })
 
 by_end : {X : Type 0} (b : Bool) (u v : Option X) (y : X) → (if b then u else v) ≡ Some y → ((b ≡ true) × (u ≡ Some y)) ⊎ ((b ≡ false) × (v ≡ Some y))
@@ -241,6 +260,7 @@ HasConstants-stated defined wanted forms parts d h =
       rules = d.plain;
       known = All-weaker (Fits_heading defined.heading) (λ k. k.relation.0 < length defined.signature.relations) (λ k f. let r : k.relation.0 ≡ 0 = ap (λ r. r.0) f.relation in omega arith) c.0 fit;
       sorted = All-weaker (Fits_heading defined.heading) (λ k. map sort_of k.args ≡ plain_sorts (kinds_of defined.signature k.relation)) (λ k f. f.sorted ∙ sym sorts ∙ ap (λ r. plain_sorts (kinds_of defined.signature r)) (sym f.relation)) c.0 fit;
+      in_range = All-weaker (Fits_heading defined.heading) (λ k. list_all is_value k.args ≡ true) (λ k f. f.in_range) c.0 fit;
     })
 
 HasConstants-first : (forms : List Sexpr) (parts : Parts) → first_of forms ≡ Some parts → HasConstants parts

@@ -1,7 +1,8 @@
 -- Problems whose terms are constants and whose rules make no calls.
-use Rattle.std.specs.Prelude.{◌≡◌, ◌<◌, [], map, length, All}
+use Rattle.std.specs.Prelude.{◌≡◌, ◌<◌, [], true, map, length, All}
+use Rattle.std.specs.List.{list_all}
 use Rattle.sig_core.specs.declared.ids.TypeId.{TypeId}
-use Rattle.sig_core.specs.Values.{sort_of}
+use Rattle.sig_core.specs.Values.{sort_of, is_value}
 use Rattle.sig_core.specs.Signatures.{kinds_of, plain_sorts}
 use Rattle.rule_core.specs.Instances.{calls_of}
 use Rattle.grammar_core.specs.Whole.{whole}
@@ -31,3 +32,4 @@ pub record HasConstants (parts : Parts) : Type 0 where
   pub rules : All (λ rule. (rule.more ≡ []) × (calls_of rule.atoms ≡ [])) parts.rules
   pub known : All (λ constraint. constraint.relation.0 < length parts.signature.relations) parts.constraints
   pub sorted : All (λ constraint. map sort_of constraint.args ≡ plain_sorts (kinds_of parts.signature constraint.relation)) parts.constraints
+  pub in_range : All (λ constraint. list_all is_value constraint.args ≡ true) parts.constraints

@@ -4,8 +4,8 @@ use Rattle.sig_core.specs.declared.ids.ConId.{ConId}
 use Rattle.sig_core.specs.Signatures.{Declarations}
 use Rattle.rule_core.specs.declared.rule.Rule.{Rule}
 use Rattle.problem_core.specs.declared.parts.Constraint.{Constraint}
-use Rattle.deriv_core.specs.declared.steps.Step.{Step}
-use Rattle.deriv_core.specs.declared.steps.StepId.{StepId}
+use Rattle.deriv_core.specs.declared.parts.Step.{Step}
+use Rattle.deriv_core.specs.declared.parts.StepId.{StepId}
 use Rattle.semgus_app.specs.Searches.{rule_number}
 
 -- the step's fact is that of the constraint

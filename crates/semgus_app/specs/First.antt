@@ -30,7 +30,8 @@ use Rattle.sexpr_core.specs.declared.form.Sexpr.TheOpen.{Sexpr-F}
 use Rattle.semgus_app.specs.declared.first.heading.Heading.{Heading}
 use Rattle.semgus_app.specs.declared.first.functions.Defined.{Defined}
 use Rattle.semgus_app.specs.Constants.{the_type}
-use Rattle.semgus_app.specs.Shapes.{◌>>=◌, when, symbol_of, numeral_of, items_of, is_symbol, is_numeral, is_keyword, constant_of}
+use Rattle.sexpr_core.specs.Access.{symbol_of, numeral_of, items_of, is_symbol, is_numeral, is_keyword}
+use Rattle.semgus_app.specs.Shapes.{◌>>=◌, when, constant_of}
 
 -- the one relation
 abbrev pub the_relation : RelId

@@ -1,11 +1,16 @@
 pub mod AnswerText
+pub mod Answers
 pub mod Commands
 pub mod Constants
+pub mod Contents
 pub mod Derivations
 pub mod Dues
-pub mod FileDues
+pub mod Files
 pub mod First
+pub mod Lines
+pub mod Outputs
 pub mod Searches
 pub mod Shapes
 pub mod Statements
 pub mod Statuses
+pub mod Tasks

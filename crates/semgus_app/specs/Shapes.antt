@@ -1,10 +1,9 @@
--- Forms by their shape.
-use Rattle.std.specs.Prelude.{ℕ, Bool, false, if◌then◌else◌, Option, Some, None, List, [], ◌∷◌, option_and_then}
-use Rattle.std.specs.Option.{option_map_or}
-use Rattle.sig_core.specs.Names.{same_name}
+-- Tests in a row, and the name of a constant.
+use Rattle.std.specs.Prelude.{ℕ, Bool, if◌then◌else◌, Option, Some, None, List, [], ◌∷◌, option_and_then}
 use Rattle.sexpr_core.specs.declared.form.Sexpr.{Sexpr, out-Sexpr}
 use Rattle.sexpr_core.specs.declared.form.Nest.{Nest}
 use Rattle.sexpr_core.specs.declared.form.Sexpr.TheOpen.{Sexpr-F}
+use Rattle.sexpr_core.specs.Access.{symbol_of}
 
 infixl 10 ◌>>=◌
 abbrev pub ◌>>=◌ : {A B : Type 0} → Option A → (A → Option B) → Option B
@@ -13,47 +12,6 @@ o >>= f = option_and_then f o
 -- the option, if the test passes
 abbrev pub when : {X : Type 0} → Bool → Option X → Option X
 when b o = if b then o else None
-
-abbrev pub symbol_in : Sexpr-F Sexpr Nest → Option (List ℕ)
-symbol_in (Sexpr-F.Symbol a) = Some a.bytes
-symbol_in _ = None
-
--- the name of a symbol
-abbrev pub symbol_of : Sexpr → Option (List ℕ)
-symbol_of form = symbol_in (out-Sexpr form)
-
-abbrev pub numeral_in : Sexpr-F Sexpr Nest → Option (List ℕ)
-numeral_in (Sexpr-F.Numeral a) = Some a.bytes
-numeral_in _ = None
-
--- the digits of a numeral
-abbrev pub numeral_of : Sexpr → Option (List ℕ)
-numeral_of form = numeral_in (out-Sexpr form)
-
-abbrev pub keyword_in : Sexpr-F Sexpr Nest → Option (List ℕ)
-keyword_in (Sexpr-F.Keyword a) = Some a.bytes
-keyword_in _ = None
-
--- the name of a keyword, without its colon
-abbrev pub keyword_of : Sexpr → Option (List ℕ)
-keyword_of form = keyword_in (out-Sexpr form)
-
-abbrev pub items_in : Sexpr-F Sexpr Nest → Option (List Sexpr)
-items_in (Sexpr-F.List n) = Some n.items
-items_in _ = None
-
--- the forms of a list
-abbrev pub items_of : Sexpr → Option (List Sexpr)
-items_of form = items_in (out-Sexpr form)
-
-abbrev pub is_symbol : List ℕ → Sexpr → Bool
-is_symbol name form = option_map_or (same_name name) (symbol_of form) false
-
-abbrev pub is_numeral : List ℕ → Sexpr → Bool
-is_numeral digits form = option_map_or (same_name digits) (numeral_of form) false
-
-abbrev pub is_keyword : List ℕ → Sexpr → Bool
-is_keyword name form = option_map_or (same_name name) (keyword_of form) false
 
 abbrev pub only_symbol : List Sexpr → Option (List ℕ)
 only_symbol (form ∷ []) = symbol_of form

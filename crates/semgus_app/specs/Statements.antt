@@ -1,9 +1,10 @@
 -- What the bytes of a problem file state.
-use Rattle.std.specs.Prelude.{◌≡◌, ◌≤◌, ◌==◌, ℕ, Bool, List, [], ◌∷◌, Some, IsFalse, length}
+use Rattle.std.specs.Prelude.{◌≡◌, ◌≤◌, ◌==◌, ℕ, Bool, List, [], ◌∷◌, Some, Result, Ok, Err, IsFalse, length}
 use Rattle.std.specs.List.{list_any}
 use Rattle.sexpr_core.specs.declared.form.Sexpr.{Sexpr}
 use Rattle.sexpr_core.specs.Spelling.{Spell}
 use Rattle.problem_core.specs.Problems.{Parts}
+use Rattle.semgus_app.specs.declared.status.Fault.{Fault}
 use Rattle.semgus_app.specs.First.{first_of}
 
 -- a semicolon, a vertical bar or a double quote, which begin a comment, a quoted symbol or a string
@@ -25,3 +26,8 @@ pub record States (bytes : List ℕ) (parts : Parts) : Type 0 where
 -- the bytes state no problem
 abbrev pub StatesNothing : List ℕ → Type 0
 StatesNothing bytes = (parts : Parts) → ¬ States bytes parts
+
+-- what the bytes of a problem file are judged to be: the problem that they state, or refused as a whole
+abbrev pub Judges : List ℕ → Result Parts Fault → Type 0
+Judges bytes (Ok parts) = States bytes parts
+Judges bytes (Err fault) = StatesNothing bytes × (fault ≡ record { place = 0; reason = 13; limit = 0 })

@@ -1,5 +1,5 @@
--- The exit status of each status.
-use Rattle.std.specs.Prelude.{ℕ}
+-- The exit status of each status, and the statuses that the bytes of files bring.
+use Rattle.std.specs.Prelude.{◌≢◌, ℕ}
 use Rattle.semgus_app.specs.declared.status.Status.{Status}
 use Rattle.semgus_app.specs.declared.status.Status.TheVariants.{Found, NoTerm, BadWords, Refused, CannotOpen, ReadFault, WriteFault, Memory}
 
@@ -12,3 +12,11 @@ number_of CannotOpen = 4
 number_of ReadFault = 4
 number_of WriteFault = 5
 number_of Memory = 6
+
+-- the status comes of the bytes of the files, and not of the words, of a call that failed or of want of memory
+pub record IsJudged (status : Status) : Type 0 where
+  pub no_bad_words : status ≢ BadWords
+  pub no_open_fault : status ≢ CannotOpen
+  pub no_read_fault : status ≢ ReadFault
+  pub no_write_fault : status ≢ WriteFault
+  pub no_want_of_memory : status ≢ Memory

@@ -1,5 +1,6 @@
-ghost use Rattle.std.specs.Prelude.{◌≡◌, ◌≢◌, ◌≤◌, ℕ, MatchOption, decimal};
-ghost use Rattle.semgus_app.specs.Commands.{IsSolve, HaveNoForm};
+ghost use Rattle.std.specs.Prelude.{◌≡◌, ◌≢◌, ◌≤◌, ℕ, List, Some, MatchOption, slice_get, codes, decimal};
+ghost use Rattle.semgus_app.specs.Commands.{task_of};
+ghost use Rattle.semgus_app.specs.Tasks.{Asks, HaveNoForm, problem_file, solve};
 
 use itoa::Buffer;
 use semgus_io::Words;
@@ -10,26 +11,47 @@ const MAX_HEIGHT: u32 = 1000;
 /// The greatest bound on the size of terms.
 const MAX_SIZE: u32 = 40;
 
-/// `solve FILE HEIGHT SIZE`.
+/// What the words ask for.
 #[derive(Clone, Copy, Debug)]
-pub struct Solve<'a> {
-    pub file: &'a str,
-    pub height: u32,
-    pub size: u32,
+pub enum Command<'a> {
+    /// a file, a bound on the height of derivations and one on the size of terms
+    Solve(&'a str, u32, u32),
 }
 
-/// What the words ask for.
-pub fn solve_of(words: &Words) -> Option<Solve<'_>>
-    ensures { MatchOption result (HaveNoForm words.now) (λ s. IsSolve words.now s.file.now s.height s.size) }
+impl<'a> Command<'a> {
+    /// The name of the problem file.
+    pub fn file(&self) -> &'a str
+        ensures { problem_file (task_of self.now) ≡ Some (record { name = result.now; limit = 1048576 }) }
+    {
+        match self {
+            Command::Solve(file, _, _) => file,
+        }
+    }
+}
+
+/// The command that the words are.
+pub fn command_of(words: &Words) -> Option<Command<'_>>
+    ensures { MatchOption result (HaveNoForm words.now) (λ command. Asks words.now (task_of command)) }
 {
     let name = words.get(0)?;
+    if name == "solve" {
+        return solve_of(words);
+    }
+    None
+}
+
+/// `solve FILE HEIGHT SIZE`, where the first word is `solve`.
+fn solve_of(words: &Words) -> Option<Command<'_>>
+    requires { slice_get words.now 0 ≡ Some (codes "solve") }
+    ensures { MatchOption result ((file : List ℕ) (height size : ℕ) → ¬ Asks words.now (solve file height size)) (λ command. Asks words.now (task_of command)) }
+{
     let file = words.get(1)?;
     let height = numeral_between(words.get(2)?, 1, MAX_HEIGHT)?;
     let size = numeral_between(words.get(3)?, 1, MAX_SIZE)?;
-    if words.len() != 4 || name != "solve" {
+    if words.len() != 4 {
         return None;
     }
-    Some(Solve { file, height, size })
+    Some(Command::Solve(file, height, size))
 }
 
 /// The number that a numeral between two numbers spells: `0`, or digits without a leading 0.

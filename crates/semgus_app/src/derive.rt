@@ -1,7 +1,7 @@
 ghost use Rattle.std.specs.Prelude.{◌≡◌, ◌≤◌, ℕ, [], ◌∷◌, Some, All, IsTrue, ◌↔◌, true, map, IfOk, MatchOption};
 ghost use Rattle.term_core.specs.Terms.{node};
 ghost use Rattle.problem_core.specs.Problems.{Solves};
-ghost use Rattle.deriv_core.specs.Derivings.{IsDerivation};
+ghost use Rattle.extract_core.specs.Derivings.{IsDerivation};
 ghost use Rattle.deriv_core.specs.Steps.{tree_steps};
 ghost use Rattle.semgus_app.specs.Constants.{HasConstants, parts_of};
 ghost use Rattle.semgus_app.specs.Derivations.{Adds, Derives, IsOf, IsOnConstant, Stands};

@@ -1,5 +1,5 @@
 use crate::{Fault, Status, Which, run};
-use semgus_io::{MemoryFiles, MemorySink, Words};
+use semgus_io::{MemoryFiles, MemorySink, SteadyFiles, SteadySink, Words};
 use std::alloc::AllocError;
 use std::process::Abort;
 use std::test::Fail;
@@ -23,77 +23,188 @@ const TINY: &str = "(declare-term-types ((E 0)) (($a)))
 const TINY_ANSWER: &str =
     "(answer 1)\n(term $a)\n(size 1)\n(node 0 $a)\n(step 0 S 0 0 (1) ())\n(derived 0 0)\n";
 
-/// Texts of files, with the status and the output of `solve` with bounds of 1.
-const ANSWERS: [(&str, Status, &str); 11] = [
-    (TINY, Status::Found, TINY_ANSWER),
+/// No constant derives 2.
+const TINY_WITH_2: &str = "(declare-term-types ((E 0)) (($a)))
+(define-funs-rec ((S ((t E) (r Int)) Bool)) ((! (match t (($a (= r 1)))) :input () :output (r))))
+(synth-fun f () E)
+(constraint (S f 2))
+(check-synth)
+";
+
+/// A rule that calls its relation on the term itself.
+const LOOP: &str = "(declare-term-types ((E 0)) (($loop)))
+(define-funs-rec ((S ((t E) (x Int) (r Int)) Bool))
+ ((! (match t (($loop (or (and (<= x 0) (= r 0))
+   (exists ((q Int)) (and (> x 0) (S t (- x 1) q) (= r (+ q 2))))))))
+  :input (x) :output (r))))
+(synth-fun f () E)
+(constraint (S f 3 6))
+(check-synth)
+";
+
+/// Words and the text of the file that they name, with the status and the output.
+const RUNS: [(&str, &str, &str, Status, &str); 5] = [
     (
-        "(declare-term-types ((E 0)) (($a)))(define-funs-rec ((S ((t E) (r Int)) Bool)) ((! (match t (($a (= r 1)))) :input () :output (r))))(synth-fun f () E)(constraint (S f 2))(check-synth)",
+        "solve tiny.sl 1 1",
+        "tiny.sl",
+        TINY,
+        Status::Found,
+        TINY_ANSWER,
+    ),
+    (
+        "solve tiny.sl 1000 40",
+        "tiny.sl",
+        TINY,
+        Status::Found,
+        TINY_ANSWER,
+    ),
+    (
+        "solve tiny.sl 1000 40",
+        "tiny.sl",
+        TINY_WITH_2,
         Status::NoTerm,
         "none\n",
     ),
+    (
+        "solve loop.sl 4 1",
+        "loop.sl",
+        LOOP,
+        REFUSED,
+        "refused 0 13\n",
+    ),
+    (
+        "solve absent.sl 1 1",
+        "tiny.sl",
+        TINY,
+        Status::CannotOpen,
+        "cannot open absent.sl\n",
+    ),
+];
+
+/// Texts of files, with the status and the output of `solve` with bounds of 1.
+const ANSWERS: [(&str, Status, &str); 10] = [
+    (TINY, Status::Found, TINY_ANSWER),
+    (TINY_WITH_2, Status::NoTerm, "none\n"),
     // Two rules of one constructor, with different outputs.
     (
-        "(declare-term-types ((E 0)) (($c)))(define-funs-rec ((S ((t E) (r Int)) Bool)) ((! (match t (($c (= r 0)) ($c (= r 1)))) :input () :output (r))))(synth-fun f () E)(constraint (S f 0))(constraint (S f 1))(check-synth)",
+        "(declare-term-types ((E 0)) (($c)))
+(define-funs-rec ((S ((t E) (r Int)) Bool)) ((! (match t (($c (= r 0)) ($c (= r 1)))) :input () :output (r))))
+(synth-fun f () E)
+(constraint (S f 0))
+(constraint (S f 1))
+(check-synth)",
         Status::Found,
         "(answer 1)\n(term $c)\n(size 1)\n(node 0 $c)\n(step 0 S 0 0 (0) ())\n(step 1 S 0 1 (1) ())\n(derived 0 0)\n(derived 1 1)\n",
     ),
     // Two facts with one input.
     (
-        "(declare-term-types ((E 0)) (($c)))(define-funs-rec ((S ((t E) (x Int) (r Int)) Bool)) ((! (match t (($c (= r 0)) ($c (= r 1)))) :input (x) :output (r))))(synth-fun f () E)(constraint (S f 5 0))(constraint (S f 5 1))(check-synth)",
+        "(declare-term-types ((E 0)) (($c)))
+(define-funs-rec ((S ((t E) (x Int) (r Int)) Bool)) ((! (match t (($c (= r 0)) ($c (= r 1)))) :input (x) :output (r))))
+(synth-fun f () E)
+(constraint (S f 5 0))
+(constraint (S f 5 1))
+(check-synth)",
         Status::Found,
         "(answer 1)\n(term $c)\n(size 1)\n(node 0 $c)\n(step 0 S 0 0 (5 0) ())\n(step 1 S 0 1 (5 1) ())\n(derived 0 0)\n(derived 1 1)\n",
     ),
     // Both constructors solve, and the case of the first comes last.
     (
-        "(declare-term-types ((E 0)) (($a $b)))(define-funs-rec ((S ((t E) (r Int)) Bool)) ((! (match t (($b (= r 1)) ($a (= r 1)))) :input () :output (r))))(synth-fun f () E)(constraint (S f 1))(check-synth)",
+        "(declare-term-types ((E 0)) (($a $b)))
+(define-funs-rec ((S ((t E) (r Int)) Bool)) ((! (match t (($b (= r 1)) ($a (= r 1)))) :input () :output (r))))
+(synth-fun f () E)
+(constraint (S f 1))
+(check-synth)",
         Status::Found,
         TINY_ANSWER,
     ),
     // The last of the constructors solves, by an input; one of them has no case.
     (
-        "(declare-term-types ((E 0)) (($a ($b) $d $c)))(define-funs-rec ((S ((t E) (x Int) (y Int) (r Int)) Bool)) ((! (match t (($a (= r 1)) (($b) (= r x)) ($c (= r y)))) :input (x y) :output (r))))(synth-fun f () E)(constraint (S f 7 170141183460469231731687303715884105727 170141183460469231731687303715884105727))(check-synth)",
+        "(declare-term-types ((E 0)) (($a ($b) $d $c)))
+(define-funs-rec ((S ((t E) (x Int) (y Int) (r Int)) Bool)) ((! (match t (($a (= r 1)) (($b) (= r x)) ($c (= r y)))) :input (x y) :output (r))))
+(synth-fun f () E)
+(constraint (S f 7 170141183460469231731687303715884105727 170141183460469231731687303715884105727))
+(check-synth)",
         Status::Found,
         "(answer 1)\n(term $c)\n(size 1)\n(node 0 $c)\n(step 0 S 0 0 (7 170141183460469231731687303715884105727 170141183460469231731687303715884105727) ())\n(derived 0 0)\n",
     ),
     // The last of 50 constructors solves, by the last of three inputs.
     (
-        "(declare-term-types ((E 0)) (($c0 $c1 $c2 $c3 $c4 $c5 $c6 $c7 $c8 $c9 $c10 $c11 $c12 $c13 $c14 $c15 $c16 $c17 $c18 $c19 $c20 $c21 $c22 $c23 $c24 $c25 $c26 $c27 $c28 $c29 $c30 $c31 $c32 $c33 $c34 $c35 $c36 $c37 $c38 $c39 $c40 $c41 $c42 $c43 $c44 $c45 $c46 $c47 $c48 $c49)))(define-funs-rec ((S ((t E) (x Int) (y Int) (z Int) (r Int)) Bool)) ((! (match t (($c0 (= r 0)) ($c1 (= r 1)) ($c2 (= r 2)) ($c3 (= r 3)) ($c4 (= r 4)) ($c5 (= r 5)) ($c6 (= r 6)) ($c7 (= r 7)) ($c8 (= r 8)) ($c9 (= r 9)) ($c10 (= r 10)) ($c11 (= r 11)) ($c12 (= r 12)) ($c13 (= r 13)) ($c14 (= r 14)) ($c15 (= r 15)) ($c16 (= r 16)) ($c17 (= r 17)) ($c18 (= r 18)) ($c19 (= r 19)) ($c20 (= r 20)) ($c21 (= r 21)) ($c22 (= r 22)) ($c23 (= r 23)) ($c24 (= r 24)) ($c25 (= r 25)) ($c26 (= r 26)) ($c27 (= r 27)) ($c28 (= r 28)) ($c29 (= r 29)) ($c30 (= r 30)) ($c31 (= r 31)) ($c32 (= r 32)) ($c33 (= r 33)) ($c34 (= r 34)) ($c35 (= r 35)) ($c36 (= r 36)) ($c37 (= r 37)) ($c38 (= r 38)) ($c39 (= r 39)) ($c40 (= r 40)) ($c41 (= r 41)) ($c42 (= r 42)) ($c43 (= r 43)) ($c44 (= r 44)) ($c45 (= r 45)) ($c46 (= r 46)) ($c47 (= r 47)) ($c48 (= r 48)) ($c49 (= r z)))) :input (x y z) :output (r))))(synth-fun f () E)(constraint (S f 7 8 99 99))(check-synth)",
+        "(declare-term-types ((E 0)) (($c0 $c1 $c2 $c3 $c4 $c5 $c6 $c7 $c8 $c9 $c10 $c11 $c12 $c13 $c14 $c15 $c16 $c17 $c18 $c19 $c20 $c21 $c22 $c23 $c24 $c25 $c26 $c27 $c28 $c29 $c30 $c31 $c32 $c33 $c34 $c35 $c36 $c37 $c38 $c39 $c40 $c41 $c42 $c43 $c44 $c45 $c46 $c47 $c48 $c49)))
+(define-funs-rec ((S ((t E) (x Int) (y Int) (z Int) (r Int)) Bool)) ((! (match t (($c0 (= r 0)) ($c1 (= r 1)) ($c2 (= r 2)) ($c3 (= r 3)) ($c4 (= r 4)) ($c5 (= r 5)) ($c6 (= r 6)) ($c7 (= r 7)) ($c8 (= r 8)) ($c9 (= r 9)) ($c10 (= r 10)) ($c11 (= r 11)) ($c12 (= r 12)) ($c13 (= r 13)) ($c14 (= r 14)) ($c15 (= r 15)) ($c16 (= r 16)) ($c17 (= r 17)) ($c18 (= r 18)) ($c19 (= r 19)) ($c20 (= r 20)) ($c21 (= r 21)) ($c22 (= r 22)) ($c23 (= r 23)) ($c24 (= r 24)) ($c25 (= r 25)) ($c26 (= r 26)) ($c27 (= r 27)) ($c28 (= r 28)) ($c29 (= r 29)) ($c30 (= r 30)) ($c31 (= r 31)) ($c32 (= r 32)) ($c33 (= r 33)) ($c34 (= r 34)) ($c35 (= r 35)) ($c36 (= r 36)) ($c37 (= r 37)) ($c38 (= r 38)) ($c39 (= r 39)) ($c40 (= r 40)) ($c41 (= r 41)) ($c42 (= r 42)) ($c43 (= r 43)) ($c44 (= r 44)) ($c45 (= r 45)) ($c46 (= r 46)) ($c47 (= r 47)) ($c48 (= r 48)) ($c49 (= r z)))) :input (x y z) :output (r))))
+(synth-fun f () E)
+(constraint (S f 7 8 99 99))
+(check-synth)",
         Status::Found,
         "(answer 1)\n(term $c49)\n(size 1)\n(node 0 $c49)\n(step 0 S 0 0 (7 8 99 99) ())\n(derived 0 0)\n",
     ),
     // Without constraints the first term solves.
     (
-        "(declare-term-types ((E 0)) (($a $b)))(define-funs-rec ((S ((t E) (r Int)) Bool)) ((! (match t ()) :input () :output (r))))(synth-fun f () E)(check-synth)",
+        "(declare-term-types ((E 0)) (($a $b)))
+(define-funs-rec ((S ((t E) (r Int)) Bool)) ((! (match t ()) :input () :output (r))))
+(synth-fun f () E)
+(check-synth)",
         Status::Found,
         "(answer 1)\n(term $a)\n(size 1)\n(node 0 $a)\n",
     ),
     (
-        "(declare-term-types ((E 0)) (()))(define-funs-rec ((S ((t E) (r Int)) Bool)) ((! (match t ()) :input () :output (r))))(synth-fun f () E)(check-synth)",
+        "(declare-term-types ((E 0)) (()))
+(define-funs-rec ((S ((t E) (r Int)) Bool)) ((! (match t ()) :input () :output (r))))
+(synth-fun f () E)
+(check-synth)",
         Status::NoTerm,
         "none\n",
-    ),
-    // A rule that calls its relation on the term itself.
-    (
-        "(declare-term-types ((E 0)) (($loop)))(define-funs-rec ((S ((t E) (x Int) (r Int)) Bool)) ((! (match t (($loop (or (and (<= x 0) (= r 0)) (exists ((q Int)) (and (> x 0) (S t (- x 1) q) (= r (+ q 2)))))))) :input (x) :output (r))))(synth-fun f () E)(constraint (S f 3 6))(check-synth)",
-        REFUSED,
-        "refused 0 13\n",
     ),
     ("", REFUSED, "refused 0 13\n"),
 ];
 
 /// Near misses of the first form.
 const NEAR_MISSES: [&str; 11] = [
-    "(declare-term-types ((E 0) (F 0)) (($a) ()))(define-funs-rec ((S ((t E) (r Int)) Bool)) ((! (match t (($a (= r 1)))) :input () :output (r))))(synth-fun f () E)(check-synth)",
-    "(declare-term-types ((E 0)) (($a $a)))(define-funs-rec ((S ((t E) (r Int)) Bool)) ((! (match t (($a (= r 1)))) :input () :output (r))))(synth-fun f () E)(check-synth)",
-    "(declare-term-types ((Int 0)) (($a)))(define-funs-rec ((S ((t Int) (r Int)) Bool)) ((! (match t (($a (= r 1)))) :input () :output (r))))(synth-fun f () Int)(check-synth)",
-    "(declare-term-types)(define-funs-rec ((S ((t E) (r Int)) Bool)) ((! (match t (($a (= r 1)))) :input () :output (r))))(synth-fun f () E)(check-synth)",
-    "(declare-term-types ((E 0)) (($a)))(define-funs-rec ((S ((t E) (r Int)) Bool)) ((! (match t (($a (= r 170141183460469231731687303715884105728)))) :input () :output (r))))(synth-fun f () E)(check-synth)",
-    "(declare-term-types ((E 0)) (($a)))(define-funs-rec ((S ((t E) (let Int) (r Int)) Bool)) ((! (match t (($a (= r 1)))) :input (let) :output (r))))(synth-fun f () E)(check-synth)",
-    "(declare-term-types ((E 0)) (($a)))(define-funs-rec ((S ((t E) (r Int)) Bool)) ((! (match t (($a (= r 1)))) :output (r) :input ())))(synth-fun f () E)(check-synth)",
-    "(declare-term-types ((E 0)) (($a)))(define-funs-rec ((S ((t E) (r Int)) Bool)) ((! (match t (($b (= r 1)))) :input () :output (r))))(synth-fun f () E)(check-synth)",
-    "(declare-term-types ((E 0)) (($a)))(define-funs-rec ((S ((t E) (r Int)) Bool)) ((! (match t (($a (= r 1)))) :input () :output (r))))(synth-fun f () E)(constraint (S f (- 1)))(check-synth)",
-    "(declare-term-types ((E 0)) (($a)))(define-funs-rec ((S ((t E) (r Int)) Bool)) ((! (match t (($a (= r 1)))) :input () :output (r))))(synth-fun f () E)(check-synth)(check-synth)",
-    "(declare-term-types ((E 0)) (($a)))(define-funs-rec ((S ((t E) (r Int)) Bool)) ((! (match t (($a (= r 1)))) :input () :output (r))))(synth-fun f () E)(constraint (S f 1))",
+    "(declare-term-types ((E 0) (F 0)) (($a) ()))
+(define-funs-rec ((S ((t E) (r Int)) Bool)) ((! (match t (($a (= r 1)))) :input () :output (r))))
+(synth-fun f () E)
+(check-synth)",
+    "(declare-term-types ((E 0)) (($a $a)))
+(define-funs-rec ((S ((t E) (r Int)) Bool)) ((! (match t (($a (= r 1)))) :input () :output (r))))
+(synth-fun f () E)
+(check-synth)",
+    "(declare-term-types ((Int 0)) (($a)))
+(define-funs-rec ((S ((t Int) (r Int)) Bool)) ((! (match t (($a (= r 1)))) :input () :output (r))))
+(synth-fun f () Int)
+(check-synth)",
+    "(declare-term-types)
+(define-funs-rec ((S ((t E) (r Int)) Bool)) ((! (match t (($a (= r 1)))) :input () :output (r))))
+(synth-fun f () E)
+(check-synth)",
+    "(declare-term-types ((E 0)) (($a)))
+(define-funs-rec ((S ((t E) (r Int)) Bool)) ((! (match t (($a (= r 170141183460469231731687303715884105728)))) :input () :output (r))))
+(synth-fun f () E)
+(check-synth)",
+    "(declare-term-types ((E 0)) (($a)))
+(define-funs-rec ((S ((t E) (let Int) (r Int)) Bool)) ((! (match t (($a (= r 1)))) :input (let) :output (r))))
+(synth-fun f () E)
+(check-synth)",
+    "(declare-term-types ((E 0)) (($a)))
+(define-funs-rec ((S ((t E) (r Int)) Bool)) ((! (match t (($a (= r 1)))) :output (r) :input ())))
+(synth-fun f () E)
+(check-synth)",
+    "(declare-term-types ((E 0)) (($a)))
+(define-funs-rec ((S ((t E) (r Int)) Bool)) ((! (match t (($b (= r 1)))) :input () :output (r))))
+(synth-fun f () E)
+(check-synth)",
+    "(declare-term-types ((E 0)) (($a)))
+(define-funs-rec ((S ((t E) (r Int)) Bool)) ((! (match t (($a (= r 1)))) :input () :output (r))))
+(synth-fun f () E)
+(constraint (S f (- 1)))
+(check-synth)",
+    "(declare-term-types ((E 0)) (($a)))
+(define-funs-rec ((S ((t E) (r Int)) Bool)) ((! (match t (($a (= r 1)))) :input () :output (r))))
+(synth-fun f () E)
+(check-synth)
+(check-synth)",
+    "(declare-term-types ((E 0)) (($a)))
+(define-funs-rec ((S ((t E) (r Int)) Bool)) ((! (match t (($a (= r 1)))) :input () :output (r))))
+(synth-fun f () E)
+(constraint (S f 1))",
 ];
 
 /// Words that have none of the forms.
@@ -119,10 +230,14 @@ fn words_of(rt: &impl AllocGlobal, line: &str) -> Result<Words, AllocError> {
     Ok(words)
 }
 
-fn file_of(rt: &impl AllocGlobal, text: &str) -> Result<MemoryFiles, AllocError> {
+fn file_named(rt: &impl AllocGlobal, name: &str, text: &str) -> Result<MemoryFiles, AllocError> {
     let mut files = MemoryFiles::new(rt.alloc());
-    files.add("tiny.sl", text.as_bytes())?;
+    files.add(name, text.as_bytes())?;
     Ok(files)
+}
+
+fn file_of(rt: &impl AllocGlobal, text: &str) -> Result<MemoryFiles, AllocError> {
+    file_named(rt, "tiny.sl", text)
 }
 
 /// Runs the words of a line over the files.
@@ -185,16 +300,37 @@ fn no_words_are_bad(rt: HostRuntime) -> Result<(), Fail> {
 }
 
 #[test]
-fn a_name_without_a_file_cannot_be_opened(rt: HostRuntime) -> Result<(), Fail> {
-    let mut files = file_of(&rt, TINY)?;
-    let line = "cannot open absent.sl\n";
-    check(
-        &rt,
-        "solve absent.sl 1 1",
-        &mut files,
-        Status::CannotOpen,
-        line,
-    )?;
+fn words_are_answered_within_their_bounds(rt: HostRuntime) -> Result<(), Fail> {
+    for (line, name, text, status, output) in RUNS {
+        let mut files = file_named(&rt, name, text)?;
+        check(&rt, line, &mut files, status, output)?;
+    }
+    Ok(())
+}
+
+/// The status of a run over steady files that hold tiny.sl.
+fn steady_run(rt: &impl AllocGlobal, line: &str, room: &mut [u8]) -> Result<Status, AllocError> {
+    let words = words_of(rt, line)?;
+    let mut files = SteadyFiles::new(rt.alloc());
+    files.add("tiny.sl", TINY.as_bytes())?;
+    let mut out = SteadySink::new(room);
+    Ok(run(rt.alloc(), &words, &mut files, &mut out))
+}
+
+#[test]
+fn steady_files_and_a_steady_sink_serve(rt: HostRuntime) -> Result<(), Fail> {
+    let mut room = [0u8; 100];
+    assert!(rt; steady_run(&rt, "solve tiny.sl 1 1", &mut room)? == Status::Found);
+    assert!(rt; &room[..TINY_ANSWER.len()] == TINY_ANSWER.as_bytes());
+    assert!(rt; steady_run(&rt, "solve absent.sl 1 1", &mut room)? == Status::CannotOpen);
+    Ok(())
+}
+
+#[test]
+fn a_full_steady_sink_keeps_a_first_part(rt: HostRuntime) -> Result<(), Fail> {
+    let mut room = [0u8; 12];
+    assert!(rt; steady_run(&rt, "solve tiny.sl 1 1", &mut room)? == Status::WriteFault);
+    assert!(rt; room == *b"(answer 1)\n(");
     Ok(())
 }
 

@@ -4,12 +4,12 @@ ghost use Rattle.semgus_app.specs.Constants.{parts_of, HasConstants};
 
 use crate::first::constraints::{constraint, few_constraints, is_check, wanted};
 use crate::first::functions::{Defined, define};
-use crate::first::heading::{Heading, copied};
+use crate::first::heading::Heading;
 use crate::first::types::{THE_TYPE, declared_types};
 use crate::problem::Problem;
 use problem_core::Constraints;
 use sexpr_core::{Forest, Sexpr};
-use sig_core::Bytes;
+use sig_core::{Bytes, bytes_of};
 use std::alloc::{AllocError, Global};
 
 /// The problem that these forms state, if they are the commands of a file of the first form.
@@ -86,7 +86,7 @@ fn stated_by(
     ensures { IfOk result (λ o. option_map parts_of o ≡ stated_by defined wanted.now forms) }
 {
     match some_constraints(alloc, &defined.heading, wanted, forms)? {
-        Some(constraints) => Ok(Some(stated(defined, copied(alloc, wanted)?, constraints))),
+        Some(constraints) => Ok(Some(stated(defined, bytes_of(alloc, wanted)?, constraints))),
         None => Ok(None),
     }
 }

@@ -7,7 +7,6 @@ use crate::first::lists::{is_empty, is_only};
 use crate::first::numbers::values;
 use crate::first::rules::THE_RELATION;
 use crate::first::types::is_short;
-use crate::shape::{is_symbol, items, symbol};
 use problem_core::{Constraint, Constraints};
 use sexpr_core::Sexpr;
 use std::alloc::{AllocError, Global};
@@ -20,7 +19,7 @@ const MOST_CONSTRAINTS: usize = 1024;
 pub fn wanted<'a>(type_name: &[u8], form: &'a Sexpr) -> Option<&'a [u8]>
     ensures { option_copied result ≡ wanted_of type_name.now form.now }
 {
-    wanted_in(type_name, items(form)?)
+    wanted_in(type_name, form.items()?)
 }
 
 fn wanted_in<'a>(type_name: &[u8], forms: &'a [Sexpr]) -> Option<&'a [u8]>
@@ -29,8 +28,8 @@ fn wanted_in<'a>(type_name: &[u8], forms: &'a [Sexpr]) -> Option<&'a [u8]>
     let [command, name, params, sort] = forms else {
         return None;
     };
-    if is_symbol(b"synth-fun", command) && is_empty(params) && is_symbol(type_name, sort) {
-        short_name(symbol(name)?)
+    if command.is_symbol(b"synth-fun") && is_empty(params) && sort.is_symbol(type_name) {
+        short_name(name.symbol()?)
     } else {
         None
     }
@@ -53,7 +52,7 @@ pub fn constraint(
 ) -> Result<Option<Constraint>, AllocError>
     ensures { IfOk result (λ o. o ≡ constraint_of heading.now wanted.now form.now) }
 {
-    let Some(forms) = items(form) else {
+    let Some(forms) = form.items() else {
         return Ok(None);
     };
     let Some(numbers) = number_forms(heading, wanted, forms) else {
@@ -75,8 +74,8 @@ fn number_forms<'a>(heading: &Heading, wanted: &[u8], forms: &'a [Sexpr]) -> Opt
     let [command, example] = forms else {
         return None;
     };
-    if is_symbol(b"constraint", command) {
-        example_in(heading, wanted, items(example)?)
+    if command.is_symbol(b"constraint") {
+        example_in(heading, wanted, example.items()?)
     } else {
         None
     }
@@ -89,8 +88,8 @@ fn example_in<'a>(heading: &Heading, wanted: &[u8], forms: &'a [Sexpr]) -> Optio
     let [relation, function, numbers @ ..] = forms else {
         return None;
     };
-    if is_symbol(heading.relation.as_slice(), relation)
-        && is_symbol(wanted, function)
+    if relation.is_symbol(heading.relation.as_slice())
+        && function.is_symbol(wanted)
         && is_one_more(numbers.len(), heading.inputs.len())
     {
         Some(numbers)

@@ -6,7 +6,6 @@ use crate::first::heading::{Heading, declared_heading};
 use crate::first::relation::with_heading;
 use crate::first::rules::rules;
 use crate::first::types::only_group;
-use crate::shape::{is_symbol, items};
 use items::Items;
 use rule_core::Rule;
 use sexpr_core::Sexpr;
@@ -45,7 +44,7 @@ pub fn define(
 fn function_parts(form: &Sexpr) -> Option<(&[Sexpr], &[Sexpr])>
     ensures { option_map (λ p. (p.0.now, p.1.now)) result ≡ function_parts_of form.now }
 {
-    function_parts_in(items(form)?)
+    function_parts_in(form.items()?)
 }
 
 fn function_parts_in(forms: &[Sexpr]) -> Option<(&[Sexpr], &[Sexpr])>
@@ -54,7 +53,7 @@ fn function_parts_in(forms: &[Sexpr]) -> Option<(&[Sexpr], &[Sexpr])>
     let [command, decls, defs] = forms else {
         return None;
     };
-    if !is_symbol(b"define-funs-rec", command) {
+    if !command.is_symbol(b"define-funs-rec") {
         return None;
     }
     let decl = only_group(decls)?;

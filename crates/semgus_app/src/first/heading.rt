@@ -2,10 +2,9 @@ ghost use Rattle.std.specs.Prelude.{◌≡◌, IfOk, option_map, codes};
 ghost use Rattle.std.specs.Option.{option_copied};
 ghost use Rattle.semgus_app.specs.First.{named, heading_with, numbers_of, heading_of, decl_parts_in, decl_in};
 
-use crate::shape::{is_symbol, items, symbol};
 use rule_core::Names;
 use sexpr_core::Sexpr;
-use sig_core::Bytes;
+use sig_core::{Bytes, bytes_of};
 use std::alloc::{AllocError, Global};
 
 /// What `define-funs-rec` declares: the names of the relation, of its term, of its inputs, in order, and of its output.
@@ -39,11 +38,11 @@ fn decl_parts(forms: &[Sexpr]) -> Option<(&[u8], &[Sexpr])>
     let [name, params, answer] = forms else {
         return None;
     };
-    if !is_symbol(b"Bool", answer) {
+    if !answer.is_symbol(b"Bool") {
         return None;
     }
-    let relation = symbol(name)?;
-    let pairs = items(params)?;
+    let relation = name.symbol()?;
+    let pairs = params.items()?;
     Some((relation, pairs))
 }
 
@@ -81,8 +80,8 @@ fn with_names(
     let Some(output) = numbers.pop() else {
         return Ok(None);
     };
-    let relation = copied(alloc, relation)?;
-    let term = copied(alloc, term)?;
+    let relation = bytes_of(alloc, relation)?;
+    let term = bytes_of(alloc, term)?;
     Ok(Some(Heading {
         relation,
         term,
@@ -110,7 +109,7 @@ fn number(alloc: Global, form: &Sexpr) -> Result<Option<Bytes>, AllocError>
     ensures { IfOk result (λ o. o ≡ named (codes "Int") form.now) }
 {
     match named(b"Int", form) {
-        Some(name) => Ok(Some(copied(alloc, name)?)),
+        Some(name) => Ok(Some(bytes_of(alloc, name)?)),
         None => Ok(None),
     }
 }
@@ -119,21 +118,12 @@ fn number(alloc: Global, form: &Sexpr) -> Result<Option<Bytes>, AllocError>
 fn named<'a>(sort: &[u8], form: &'a Sexpr) -> Option<&'a [u8]>
     ensures { option_copied result ≡ named sort.now form.now }
 {
-    let [name, found] = items(form)? else {
+    let [name, found] = form.items()? else {
         return None;
     };
-    if is_symbol(sort, found) {
-        symbol(name)
+    if found.is_symbol(sort) {
+        name.symbol()
     } else {
         None
     }
-}
-
-/// A copy of these bytes.
-pub fn copied(alloc: Global, bytes: &[u8]) -> Result<Bytes, AllocError>
-    ensures { IfOk result (λ copy. copy ≡ bytes.now) }
-{
-    let mut copy = Bytes::new(alloc);
-    copy.append(bytes)?;
-    Ok(copy)
 }

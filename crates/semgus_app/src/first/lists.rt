@@ -1,7 +1,6 @@
 ghost use Rattle.std.specs.Prelude.{◌≡◌};
 ghost use Rattle.semgus_app.specs.First.{are_symbols_in, are_symbols, is_only, is_empty};
 
-use crate::shape::{is_symbol, items};
 use sexpr_core::Sexpr;
 use sig_core::Bytes;
 
@@ -9,7 +8,7 @@ use sig_core::Bytes;
 pub fn are_symbols(names: &[Bytes], form: &Sexpr) -> bool
     ensures { result ≡ are_symbols names.now form.now }
 {
-    match items(form) {
+    match form.items() {
         Some(forms) => are_symbols_in(names, forms),
         None => false,
     }
@@ -23,7 +22,7 @@ fn are_symbols_in(names: &[Bytes], forms: &[Sexpr]) -> bool
         [name, names @ ..] => match forms {
             [] => false,
             [form, forms @ ..] => {
-                is_symbol(name.as_slice(), form) && are_symbols_in(names, forms)
+                form.is_symbol(name.as_slice()) && are_symbols_in(names, forms)
             }
         },
     }
@@ -33,8 +32,8 @@ fn are_symbols_in(names: &[Bytes], forms: &[Sexpr]) -> bool
 pub fn is_only(name: &[u8], form: &Sexpr) -> bool
     ensures { result ≡ is_only name.now form.now }
 {
-    match items(form) {
-        Some([only]) => is_symbol(name, only),
+    match form.items() {
+        Some([only]) => only.is_symbol(name),
         _ => false,
     }
 }
@@ -43,7 +42,7 @@ pub fn is_only(name: &[u8], form: &Sexpr) -> bool
 pub fn is_empty(form: &Sexpr) -> bool
     ensures { result ≡ is_empty form.now }
 {
-    match items(form) {
+    match form.items() {
         Some([]) => true,
         _ => false,
     }

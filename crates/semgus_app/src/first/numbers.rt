@@ -1,7 +1,6 @@
 ghost use Rattle.std.specs.Prelude.{◌≡◌, ◌<◌, ◌^◌, SomeIff, IfOk};
 ghost use Rattle.semgus_app.specs.First.{number_from, value_of_digits, number_of, values_of};
 
-use crate::shape::numeral;
 use sexpr_core::Sexpr;
 use sig_core::{Value, Values};
 use std::alloc::{AllocError, Global};
@@ -24,7 +23,7 @@ pub fn values(alloc: Global, forms: &[Sexpr]) -> Result<Option<Values>, AllocErr
 fn value(form: &Sexpr) -> Option<Value>
     ensures { result ≡ number_of form.now }
 {
-    value_of(numeral(form)?)
+    value_of(form.numeral()?)
 }
 
 /// The value that these digits spell, if it is below 2^127.

@@ -4,7 +4,7 @@ ghost use Rattle.sig_core.specs.Names.{place_of};
 ghost use Rattle.semgus_app.specs.First.{is_param_name, param_names, are_distinct, is_heading, relation_of, with_accepted, with_heading};
 ghost use Rattle.sig_core.specs.WellFormed.{IsRelation};
 
-use crate::first::heading::{Heading, copied};
+use crate::first::heading::Heading;
 use crate::first::types::{THE_TYPE, is_short};
 use rule_core::Names;
 use sig_core::{Bytes, Kind, Param, Params, Relation, SigError, Signature, Sort, is_reserved};

@@ -9,7 +9,7 @@ use crate::first::heading::Heading;
 use crate::first::lists::{are_symbols, is_only};
 use crate::first::numbers::value_of;
 use crate::first::relation::place_of;
-use crate::shape::{constant, is_keyword, is_symbol, items};
+use crate::shape::constant;
 use expr_core::Expr;
 use items::Items;
 use rule_core::{Atom, Atoms, Names, Rule, Vars};
@@ -61,8 +61,8 @@ fn case_forms<'a>(heading: &Heading, def: &'a [Sexpr]) -> Option<&'a [Sexpr]>
     let [mark, body, attributes @ ..] = def else {
         return None;
     };
-    if is_symbol(b"!", mark) && have_attributes(heading, attributes) {
-        match_forms(heading, items(body)?)
+    if mark.is_symbol(b"!") && have_attributes(heading, attributes) {
+        match_forms(heading, body.items()?)
     } else {
         None
     }
@@ -74,9 +74,9 @@ fn have_attributes(heading: &Heading, forms: &[Sexpr]) -> bool
 {
     match forms {
         [input, inputs, output, outputs] => {
-            is_keyword(b"input", input)
+            input.is_keyword(b"input")
                 && are_symbols(heading.inputs.as_slice(), inputs)
-                && (is_keyword(b"output", output) && is_only(heading.output.as_slice(), outputs))
+                && (output.is_keyword(b"output") && is_only(heading.output.as_slice(), outputs))
         }
         _ => false,
     }
@@ -89,8 +89,8 @@ fn match_forms<'a>(heading: &Heading, forms: &'a [Sexpr]) -> Option<&'a [Sexpr]>
     let [word, term, cases] = forms else {
         return None;
     };
-    if is_symbol(b"match", word) && is_symbol(heading.term.as_slice(), term) {
-        items(cases)
+    if word.is_symbol(b"match") && term.is_symbol(heading.term.as_slice()) {
+        cases.items()
     } else {
         None
     }
@@ -155,7 +155,7 @@ fn case_parts(signature: &Signature, heading: &Heading, form: &Sexpr) -> Option<
     requires { length heading.now.inputs ≤ 30 }
     ensures { result ≡ case_parts_of signature.now heading.now form.now }
 {
-    case_parts_in(signature, heading, items(form)?)
+    case_parts_in(signature, heading, form.items()?)
 }
 
 fn case_parts_in(signature: &Signature, heading: &Heading, forms: &[Sexpr]) -> Option<(ConId, Expr)>
@@ -182,7 +182,7 @@ fn equation(heading: &Heading, form: &Sexpr) -> Option<Expr>
     requires { length heading.now.inputs ≤ 30 }
     ensures { result ≡ equation_of heading.now form.now }
 {
-    equation_in(heading, items(form)?)
+    equation_in(heading, form.items()?)
 }
 
 fn equation_in(heading: &Heading, forms: &[Sexpr]) -> Option<Expr>
@@ -192,7 +192,7 @@ fn equation_in(heading: &Heading, forms: &[Sexpr]) -> Option<Expr>
     let [equals, output, value] = forms else {
         return None;
     };
-    if is_symbol(b"=", equals) && is_symbol(heading.output.as_slice(), output) {
+    if equals.is_symbol(b"=") && output.is_symbol(heading.output.as_slice()) {
         expression(heading.inputs.as_slice(), value)
     } else {
         None

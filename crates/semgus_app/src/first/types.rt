@@ -2,7 +2,7 @@ ghost use Rattle.std.specs.Prelude.{◌≡◌, IfOk, IfSome, ◌≤◌, Some, No
 ghost use Rattle.std.specs.Option.{option_copied};
 ghost use Rattle.semgus_app.specs.First.{type_of, group_of, type_parts_of, types_of, with_constant, with_constants, with_the_type, is_short};
 
-use crate::shape::{constant, is_numeral, is_symbol, items, symbol};
+use crate::shape::constant;
 use sexpr_core::Sexpr;
 use sig_core::{SigError, Signature, TypeId};
 use std::alloc::{AllocError, Global};
@@ -39,10 +39,10 @@ pub fn declared_types(alloc: Global, form: &Sexpr) -> Result<Option<Signature>, 
 fn type_parts(form: &Sexpr) -> Option<(&[u8], &[Sexpr])>
     ensures { option_map (λ p. (p.0.now, p.1.now)) result ≡ type_parts_of form.now }
 {
-    let [command, names, groups] = items(form)? else {
+    let [command, names, groups] = form.items()? else {
         return None;
     };
-    if !is_symbol(b"declare-term-types", command) {
+    if !command.is_symbol(b"declare-term-types") {
         return None;
     }
     let name = type_name(names)?;
@@ -54,14 +54,14 @@ fn type_parts(form: &Sexpr) -> Option<(&[u8], &[Sexpr])>
 fn type_name(form: &Sexpr) -> Option<&[u8]>
     ensures { option_copied result ≡ type_of form.now }
 {
-    let [pair] = items(form)? else {
+    let [pair] = form.items()? else {
         return None;
     };
-    let [name, arity] = items(pair)? else {
+    let [name, arity] = pair.items()? else {
         return None;
     };
-    if is_numeral(b"0", arity) {
-        symbol(name)
+    if arity.is_numeral(b"0") {
+        name.symbol()
     } else {
         None
     }
@@ -71,10 +71,10 @@ fn type_name(form: &Sexpr) -> Option<&[u8]>
 pub fn only_group(form: &Sexpr) -> Option<&[Sexpr]>
     ensures { option_copied result ≡ group_of form.now }
 {
-    let [group] = items(form)? else {
+    let [group] = form.items()? else {
         return None;
     };
-    items(group)
+    group.items()
 }
 
 /// The signature with one type, if its name isn't refused.

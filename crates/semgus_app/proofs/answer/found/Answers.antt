@@ -1,14 +1,14 @@
 use Rattle.std.proofs.Common.{[], ◌∷◌, List, ap₂, ◌∙◌, map}
-use Rattle.deriv_core.specs.declared.steps.Step.{Step}
-use Rattle.deriv_core.specs.declared.steps.StepId.{StepId}
+use Rattle.deriv_core.specs.declared.parts.Step.{Step}
+use Rattle.deriv_core.specs.declared.parts.StepId.{StepId}
 use Rattle.deriv_core.specs.Steps.{tree_steps}
 use Rattle.term_core.specs.Terms.{node}
 use Rattle.semgus_app.specs.AnswerText.{answer_text}
 use Rattle.semgus_app.proofs.Judging.{one_node}
-use Rattle.semgus_app.proofs.judge.found.Goals as goal
+use Rattle.semgus_app.proofs.answer.found.Goals as goal
 
-pub returns-clause-text : goal.returns-clause-text
-returns-clause-text c = λ height size tall large.
+pub returns : goal.returns
+returns c = λ height size tall large.
     (let t = node c.args.con [] in
     let made = c.in_ok-derived.derived in
     record {

@@ -1,0 +1,34 @@
+-- What is read of the files of a task.
+use Rattle.std.specs.Prelude.{◌≡◌, ◌+◌, ℕ, List, Option, Some, take}
+use Rattle.std.specs.Option.{ForSome}
+use Rattle.semgus_app.specs.Tasks.{Task, NamedFile, problem_file}
+
+-- what files tell of a name: its bytes, or that there is no such file, or nothing
+abbrev pub Held : Type 0
+Held = List ℕ → Option (Option (List ℕ))
+
+-- the bytes of the files of a task, each cut after the byte past its limit
+pub record Inputs : Type 0 where
+  pub problem : List ℕ
+
+-- the file's bytes are told and are these, cut after the byte past its limit
+pub record AreTold (held : Held) (file : NamedFile) (bytes : List ℕ) : Type 0 where
+  pub whole : List ℕ
+  pub told : held file.name ≡ Some (Some whole)
+  pub cut : bytes ≡ take (file.limit + 1) whole
+
+-- these bytes were read of the file: those that are told, where something is
+abbrev pub AreRead : Held → NamedFile → List ℕ → Type 0
+AreRead held file bytes = ForSome (held file.name) (λ contents. (whole : List ℕ) × (contents ≡ Some whole) × (bytes ≡ take (file.limit + 1) whole))
+
+-- the files tell these bytes of the files of the task
+pub record Tell (held : Held) (task : Task) (inputs : Inputs) : Type 0 where
+  pub problem : ForSome (problem_file task) (λ file. AreTold held file inputs.problem)
+
+-- these bytes were read of the files of the task
+pub record WereRead (held : Held) (task : Task) (inputs : Inputs) : Type 0 where
+  pub problem : ForSome (problem_file task) (λ file. AreRead held file inputs.problem)
+
+-- the run comes to this file
+pub data IsReached (held : Held) (task : Task) (file : NamedFile) : Type 0 where
+  as_problem : problem_file task ≡ Some file → IsReached held task file

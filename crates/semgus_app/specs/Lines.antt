@@ -1,0 +1,44 @@
+-- The lines that are printed.
+use Rattle.std.specs.Prelude.{◌==◌, ℕ, List, ◌++◌, [], ◌∷◌, Option, Some, None, if◌then◌else◌, codes, decimal}
+use Rattle.semgus_app.specs.declared.status.Fault.{Fault}
+use Rattle.semgus_app.specs.declared.status.Status.{Status}
+use Rattle.semgus_app.specs.declared.status.Status.TheVariants as status
+use Rattle.semgus_app.specs.declared.status.Which.{Which}
+use Rattle.semgus_app.specs.declared.status.Which.TheVariants as which
+
+-- `cannot open NAME`
+abbrev pub cannot_open_line : List ℕ → List ℕ
+cannot_open_line name = codes "cannot open " ++ name ++ 10 ∷ []
+
+abbrev pub read_fault_line : List ℕ
+read_fault_line = codes "read fault\n"
+
+abbrev pub bad_words_line : List ℕ
+bad_words_line = codes "bad words\n"
+
+abbrev pub none_line : List ℕ
+none_line = codes "none\n"
+
+-- a space and a number
+abbrev pub number_word : ℕ → List ℕ
+number_word n = 32 ∷ [] ++ decimal n
+
+abbrev pub refusal_start : Which → List ℕ
+refusal_start which.Problem = codes "refused"
+refusal_start which.Answer = codes "answer refused"
+
+-- `refused PLACE REASON`, and for reason 50 `refused PLACE 50 LIMIT`
+abbrev pub refusal_line : Which → Fault → List ℕ
+refusal_line file fault = refusal_start file ++ number_word fault.place ++ number_word fault.reason
+    ++ (if fault.reason == 50 then number_word fault.limit else []) ++ 10 ∷ []
+
+-- the line that a status prints, where it is the same for all tasks and files
+abbrev pub line_of : Status → Option (List ℕ)
+line_of status.Found = None
+line_of status.NoTerm = Some none_line
+line_of status.BadWords = Some bad_words_line
+line_of (status.Refused file fault) = Some (refusal_line file fault)
+line_of status.CannotOpen = None
+line_of status.ReadFault = Some read_fault_line
+line_of status.WriteFault = None
+line_of status.Memory = None

@@ -1,0 +1,77 @@
+ghost use Rattle.std.specs.Prelude.{◌≡◌, ◌==◌, [], ◌∷◌, ◌++◌, if◌then◌else◌, IfOk, OnOk};
+ghost use Rattle.semgus_app.specs.Lines.{cannot_open_line, read_fault_line, refusal_start, refusal_line, number_word};
+
+use crate::due::Due;
+use crate::status::{Fault, Status, Which};
+use itoa::Buffer;
+use sig_core::Bytes;
+use std::alloc::{AllocError, Global};
+
+/// The reason of a file that passes a limit, whose number is printed with it.
+const LIMIT_PASSED: u8 = 50;
+
+/// The line that says that a file could not be begun.
+pub fn cannot_open(alloc: Global, name: &str) -> Result<Due, AllocError>
+    ensures { IfOk result (λ d. (d.status ≡ Status.CannotOpen) × (d.text ≡ cannot_open_line name.now)) }
+{
+    let mut text = Bytes::new(alloc);
+    text.append(b"cannot open ")?;
+    text.append(name.as_bytes())?;
+    text.push(b'\n')?;
+    Ok(Due {
+        status: Status::CannotOpen,
+        text,
+    })
+}
+
+/// The line that says that a read failed.
+pub fn read_fault(alloc: Global) -> Result<Due, AllocError>
+    ensures { IfOk result (λ d. (d.status ≡ Status.ReadFault) × (d.text ≡ read_fault_line)) }
+{
+    Ok(Due::line(alloc, Status::ReadFault, b"read fault\n")?)
+}
+
+/// The line of a file that is refused.
+pub fn refusal(alloc: Global, which: Which, fault: Fault) -> Result<Due, AllocError>
+    ensures { IfOk result (λ d. (d.status ≡ Status.Refused which fault) × (d.text ≡ refusal_line which fault)) }
+{
+    let mut text = Bytes::new(alloc);
+    put_start(which, &mut text)?;
+    put_number(u64::from(fault.place), &mut text)?;
+    put_number(u64::from(fault.reason), &mut text)?;
+    put_limit(fault, &mut text)?;
+    text.push(b'\n')?;
+    Ok(Due {
+        status: Status::Refused(which, fault),
+        text,
+    })
+}
+
+/// The words that a refusal begins with.
+fn put_start(which: Which, out: &mut Bytes) -> Result<(), AllocError>
+    ensures { OnOk result (out.new ≡ out.old ++ refusal_start which) }
+{
+    match which {
+        Which::Problem => out.append(b"refused"),
+        Which::Answer => out.append(b"answer refused"),
+    }
+}
+
+/// The number of the limit, where one is passed.
+fn put_limit(fault: Fault, out: &mut Bytes) -> Result<(), AllocError>
+    ensures { OnOk result (out.new ≡ out.old ++ (if fault.reason == 50 then number_word fault.limit else [])) }
+{
+    if fault.reason == LIMIT_PASSED {
+        put_number(u64::from(fault.limit), out)?;
+    }
+    Ok(())
+}
+
+/// A space and a number.
+fn put_number(number: u64, out: &mut Bytes) -> Result<(), AllocError>
+    ensures { OnOk result (out.new ≡ out.old ++ number_word number) }
+{
+    let mut buffer = Buffer::new();
+    out.append(b" ")?;
+    out.append(buffer.format(number).as_bytes())
+}
