@@ -1,0 +1,5 @@
+pub mod Shaping
+pub mod ListExps
+pub mod FormInduction
+pub mod Misfitting
+pub mod MisfitLaws
