@@ -1,551 +1,434 @@
-//! The names of relations, of their parameters and variables, and of what their definitions use.
-ghost use Rattle.std.specs.Prelude.{◌≡◌, ◌++◌, ◌∷◌, [], None, false, IfOk, map, List, ℕ, length};
-ghost use Rattle.std.specs.List.{list_all, list_any};
-ghost use Rattle.sexpr_core.specs.Lexicon.{is_digit};
-ghost use Rattle.elab_core.specs.Bodies.{deepest};
-ghost use Rattle.elab_core.specs.Limits.{name_in};
-ghost use Rattle.elab_core.specs.Names.{has, names_in, text_of};
-ghost use Rattle.elab_core.specs.FunctionNames.{attribute_fault, attributes_fault, body_fault, case_fault, definition_fault, distinct_from, existential_fault, expression_fault, first_attribute, first_definition, first_existential, first_of, first_parameter, first_relation, first_variable, functions_fault, head_fault, is_constant, is_listed, is_negative, is_number, is_plain, is_term, lists_fault, match_fault, new_relation_fault, new_variable_fault, parameter_fault, parameters_at, pattern_fault, relation_fault, scope_of, sort_in, stands, symbol_fault};
+//! The names of relations and of what defines them.
+ghost use Rattle.std.specs.Prelude.{◌&&◌, ◌≡◌, ◌<◌, ◌≤◌, ◌++◌, [], not, map, length, IfOk, OnOk};
+ghost use Rattle.std.specs.List.{flat_map, list_all, list_any};
+ghost use Rattle.sig_core.specs.Names.{same_name};
+ghost use Rattle.sig_core.specs.WellFormed.{relation_names};
+ghost use Rattle.elab_core.specs.Faults.{bad_if, first, found};
+ghost use Rattle.elab_core.specs.Names.{are_listed, attribute_names, attributes_of, case_names, declaration_names, definition_names, function_names, functions_names, has, is_plain, names_in, parameter_names, plain_pairs, sort_names, term_pairs, texts, unfit_name, unknown_name};
 
-use crate::bodies::{DEEPEST, begins, cases_of, others_of};
-use crate::fault::Fault;
-use crate::heads::{is_word, operator_named};
-use crate::limits::{item_of, name_in, parameters_of};
-use crate::names::{fault_if, has, is_sort, keep, text_of};
-use crate::shapes::parts_of;
-use items::at;
-use sexpr_core::Sexpr;
-use sig_core::{NameTable, Signature, is_reserved};
+use crate::body_names::body_name;
+use crate::branching::{copy_names, put_names};
+use crate::cases::is_plain;
+use crate::expression_names::has;
+use crate::type_names::{has_symbol, is_sort_name};
+use rule_core::Names;
+use sexpr_core::Atom;
+use sig_core::{Bytes, RelId, Signature, is_reserved};
 use std::alloc::{AllocError, Global};
+use syntax_core::{Case, Definition, Fault, Function, Pair, Symbols, is_word, refusal};
 
-#[tactic(auto, unfolding(crate::specs::FunctionNames::new_relation_fault))]
-fn new_relation_fault(signature: &Signature, names: &NameTable, name: &Sexpr) -> Option<Fault>
-    ensures value { result ≡ new_relation_fault signature.now names.now name.now }
-    ensures new { result ≡ None → has names.now (text_of name.now) ≡ false }
-{
-    let text = text_of(name);
-    let is_taken = signature.relation_named(text).is_some()
-        || has(names, text)
-        || is_reserved(text);
-    fault_if(is_taken, 21, name)
-}
-
-#[tactic(auto, unfolding(crate::specs::FunctionNames::new_variable_fault))]
-fn new_variable_fault(scope: &NameTable, name: &Sexpr) -> Option<Fault>
-    ensures value { result ≡ new_variable_fault scope.now name.now }
-    ensures new { result ≡ None → has scope.now (text_of name.now) ≡ false }
-{
-    let text = text_of(name);
-    fault_if(has(scope, text) || is_reserved(text), 21, name)
-}
-
-/// The name of the sort or of the type in a pair.
-pub(crate) fn sort_in(pair: &Sexpr) -> &[u8]
-    ensures { result.now ≡ sort_in pair.now }
-{
-    text_of(item_of(pair, 1))
-}
-
-fn parameter_fault(signature: &Signature, scope: &NameTable, pair: &Sexpr) -> Option<Fault>
-    ensures value { result ≡ parameter_fault signature.now scope.now pair.now }
-    ensures new { result ≡ None → has scope.now (text_of (name_in pair.now)) ≡ false }
-{
-    if let Some(fault) = new_variable_fault(scope, name_in(pair)) {
-        return Some(fault);
-    }
-    let sort = sort_in(pair);
-    let is_known = is_sort(sort) || signature.type_named(sort).is_some();
-    fault_if(!is_known, 20, item_of(pair, 1))
-}
-
-/// The first of the parameters with a wrong name. The names join those before them.
-fn first_parameter(
-    alloc: Global,
-    signature: &Signature,
-    scope: &mut NameTable,
-    pairs: &[Sexpr],
-) -> Result<Option<Fault>, AllocError>
-    ensures { IfOk result (λ fault. fault ≡ first_parameter signature.now scope.old pairs.now) }
+/// Whether one of the pairs has this name.
+#[tactic(auto, using(crate::proofs::Having::havings))]
+pub(crate) fn has_pair(pairs: &[Pair], name: &[u8]) -> bool
+    ensures { result ≡ has (names_in pairs.now) name.now }
 {
     for pair in pairs {
-        if let Some(fault) = parameter_fault(signature, scope, pair) {
-            return Ok(Some(fault));
+        if name == pair.name.bytes.as_slice() {
+            return true;
         }
-        keep(alloc, scope, name_in(pair))?;
     }
-    Ok(None)
+    false
 }
 
-/// The first declaration with a wrong name. The names join those before them.
-fn first_relation(
-    alloc: Global,
-    signature: &Signature,
-    names: &mut NameTable,
-    forms: &[Sexpr],
-) -> Result<Option<Fault>, AllocError>
-    ensures fault { IfOk result (λ fault. fault ≡ first_relation signature.now names.old forms.now) }
-    ensures names { IfOk result (λ fault. fault ≡ None → names.new ≡ names.old ++ names_in forms.now) }
+/// Whether the parameter has this name, and isn't a term.
+fn is_plain_named(name: &[u8], pair: &Pair) -> bool
+    ensures { result ≡ (is_plain pair.now && same_name name.now pair.now.name.bytes) }
 {
-    for form in forms {
-        let name = name_in(form);
-        if let Some(fault) = new_relation_fault(signature, names, name) {
-            return Ok(Some(fault));
+    is_plain(pair) && is_word(pair.name.bytes.as_slice(), name)
+}
+
+/// Whether the parameter has this name, and is a term.
+fn is_term_named(name: &[u8], pair: &Pair) -> bool
+    ensures { result ≡ (not (is_plain pair.now) && same_name name.now pair.now.name.bytes) }
+{
+    !is_plain(pair) && is_word(pair.name.bytes.as_slice(), name)
+}
+
+fn any_plain(params: &[Pair], name: &[u8]) -> bool
+    ensures { result ≡ list_any (λ pair. is_plain pair && same_name name.now pair.name.bytes) params.now }
+{
+    params.iter().any(|pair| is_plain_named(name, pair))
+}
+
+fn any_term(params: &[Pair], name: &[u8]) -> bool
+    ensures { result ≡ list_any (λ pair. not (is_plain pair) && same_name name.now pair.name.bytes) params.now }
+{
+    params.iter().any(|pair| is_term_named(name, pair))
+}
+
+/// Whether one of the parameters that aren't terms has this name.
+fn has_plain(params: &[Pair], name: &[u8]) -> bool
+    ensures { result ≡ has (names_in (plain_pairs params.now)) name.now }
+{
+    any_plain(params, name)
+}
+
+/// Whether one of the terms among the parameters has this name.
+fn has_term(params: &[Pair], name: &[u8]) -> bool
+    ensures { result ≡ has (names_in (term_pairs params.now)) name.now }
+{
+    any_term(params, name)
+}
+
+/// Whether one of the functions has this name.
+#[tactic(auto, using(crate::proofs::Having::havings))]
+fn has_function(functions: &[Function], name: &[u8]) -> bool
+    ensures { result ≡ has (function_names functions.now) name.now }
+{
+    for function in functions {
+        if name == function.declaration.name.bytes.as_slice() {
+            return true;
         }
-        let mut scope = NameTable::new(alloc);
-        if let Some(fault) = first_parameter(alloc, signature, &mut scope, parameters_of(form))? {
-            return Ok(Some(fault));
-        }
-        keep(alloc, names, name)?;
     }
-    Ok(None)
+    false
 }
 
-/// Whether the digits make a numeral.
-fn is_number(digits: &[u8]) -> bool
-    ensures { result ≡ is_number digits.now }
+/// The fault of a parameter's name, where these are before it.
+fn new_parameter_name(before: &[Pair], name: &Atom) -> Option<Fault>
+    ensures { result ≡ first (unfit_name (names_in before.now) name.now) }
 {
-    match digits {
-        [] => false,
-        [first] => first.is_ascii_digit(),
-        [first, _, ..] => *first != b'0' && are_digits(digits),
+    let text = name.bytes.as_slice();
+    if has_pair(before, text) || is_reserved(text) {
+        Some(refusal(name.place, 21))
+    } else {
+        None
     }
 }
 
-fn are_digits(bytes: &[u8]) -> bool
-    ensures { result ≡ list_all is_digit bytes.now }
+/// The fault of a sort that is no type, `Int` or `Bool`.
+#[tactic(auto, using(crate::proofs::Having::joints))]
+fn parameter_sort_name(signature: &Signature, name: &Atom) -> Option<Fault>
+    ensures { result ≡ first (unknown_name (signature.now.types ++ sort_names) name.now) }
 {
-    bytes.iter().all(|byte| byte.is_ascii_digit())
-}
-
-pub(crate) fn is_negative(name: &[u8]) -> bool
-    ensures { result ≡ is_negative name.now }
-{
-    match name {
-        [] => false,
-        [sign, digits @ ..] => *sign == b'-' && is_number(digits),
+    let text = name.bytes.as_slice();
+    if signature.type_named(text).is_some() || is_sort_name(text) {
+        None
+    } else {
+        Some(refusal(name.place, 20))
     }
 }
 
-/// Whether the name is `true`, `false` or a negative number.
-pub(crate) fn is_constant(name: &[u8]) -> bool
-    ensures { result ≡ is_constant name.now }
+/// The leftmost wrong name of a parameter, where these are before it.
+#[tactic(auto, using(crate::proofs::Firsts::firsts))]
+fn parameter_name(signature: &Signature, before: &[Pair], pair: &Pair) -> Option<Fault>
+    ensures { result ≡ first (parameter_names signature.now before.now pair.now) }
 {
-    is_word(name, b"true") || is_word(name, b"false") || is_negative(name)
-}
-
-#[tactic(auto, unfolding(crate::specs::FunctionNames::symbol_fault))]
-fn symbol_fault(scope: &NameTable, form: &Sexpr) -> Option<Fault>
-    ensures { result ≡ symbol_fault scope.now form.now }
-{
-    let text = text_of(form);
-    let is_known = has(scope, text) || is_constant(text);
-    fault_if(form.symbol().is_some() && !is_known, 20, form)
-}
-
-#[tactic(auto, unfolding(crate::specs::FunctionNames::head_fault))]
-fn head_fault(signature: &Signature, names: &NameTable, head: &Sexpr) -> Option<Fault>
-    ensures { result ≡ head_fault signature.now names.now head.now }
-{
-    let text = text_of(head);
-    let is_known = operator_named(text).is_some()
-        || signature.relation_named(text).is_some()
-        || has(names, text);
-    fault_if(!is_known, 20, head)
-}
-
-/// The leftmost wrong name of an expression, which is followed to this depth of lists.
-#[cycle(expressions)]
-#[tactic(auto, unfolding(crate::specs::FunctionNames::expression_fault))]
-fn expression_fault(
-    depth: u8,
-    signature: &Signature,
-    names: &NameTable,
-    scope: &NameTable,
-    form: &Sexpr,
-) -> Option<Fault>
-    ensures { result ≡ expression_fault depth signature.now names.now scope.now form.now }
-{
-    if depth == 0 || form.items().is_none() {
-        return symbol_fault(scope, form);
+    if let Some(fault) = new_parameter_name(before, &pair.name) {
+        return Some(fault);
     }
-    match head_fault(signature, names, item_of(form, 0)) {
-        Some(fault) => Some(fault),
-        None => first_operand(depth - 1, signature, names, scope, others_of(form)),
-    }
+    parameter_sort_name(signature, &pair.sort)
 }
 
-#[cycle(expressions)]
-#[tactic(auto, unfolding(crate::specs::FunctionNames::expression_fault))]
-fn first_operand(
-    depth: u8,
-    signature: &Signature,
-    names: &NameTable,
-    scope: &NameTable,
-    forms: &[Sexpr],
-) -> Option<Fault>
-    ensures { result ≡ first_of (expression_fault depth signature.now names.now scope.now) forms.now }
+/// The leftmost wrong name of parameters.
+#[tactic(auto, using(crate::proofs::Firsts::firsts))]
+fn parameters_name(signature: &Signature, params: &[Pair]) -> Option<Fault>
+    ensures { result ≡ first (found (parameter_names signature.now) params.now) }
 {
-    for form in forms {
-        if let Some(fault) = expression_fault(depth, signature, names, scope, form) {
+    for (k, pair) in params.iter().enumerate() {
+        if let Some(fault) = parameter_name(signature, &params[..k], pair) {
             return Some(fault);
         }
     }
     None
 }
 
-/// Takes the last names away, so many as were added.
-pub(crate) fn leave(names: &mut NameTable, count: usize)
-    ensures { (outer added : List (List ℕ)) → names.old ≡ outer ++ added → length added ≡ count → names.new ≡ outer }
+/// The fault of a new relation's name, where these functions are before it.
+#[tactic(auto, using(crate::proofs::Having::havings))]
+fn relation_name(signature: &Signature, before: &[Function], name: &Atom) -> Option<Fault>
+    ensures { result ≡ first (unfit_name (relation_names signature.now.relations ++ function_names before.now) name.now) }
 {
-    for removed in 0..count {
-        names.remove_last();
+    let text = name.bytes.as_slice();
+    if signature.relation_named(text).is_some() || has_function(before, text) || is_reserved(text) {
+        Some(refusal(name.place, 21))
+    } else {
+        None
     }
 }
 
-fn existential_fault(scope: &NameTable, pair: &Sexpr) -> Option<Fault>
-    ensures value { result ≡ existential_fault scope.now pair.now }
-    ensures new { result ≡ None → has scope.now (text_of (name_in pair.now)) ≡ false }
+/// The leftmost wrong name of a declaration, where these functions are before it.
+#[tactic(auto, using(crate::proofs::Firsts::firsts))]
+fn declaration_name(
+    signature: &Signature,
+    before: &[Function],
+    function: &Function,
+) -> Option<Fault>
+    ensures { result ≡ first (declaration_names signature.now before.now function.now) }
 {
-    if let Some(fault) = new_variable_fault(scope, name_in(pair)) {
+    if let Some(fault) = relation_name(signature, before, &function.declaration.name) {
         return Some(fault);
     }
-    fault_if(!is_sort(sort_in(pair)), 20, item_of(pair, 1))
+    parameters_name(signature, function.declaration.params.as_slice())
 }
 
-/// The first of the existentials with a wrong name. The names join the scope.
-fn first_existential(
-    alloc: Global,
-    scope: &mut NameTable,
-    pairs: &[Sexpr],
-) -> Result<Option<Fault>, AllocError>
-    ensures fault { IfOk result (λ fault. fault ≡ first_existential scope.old pairs.now) }
-    ensures names { IfOk result (λ fault. fault ≡ None → scope.new ≡ scope.old ++ names_in pairs.now) }
+/// The leftmost wrong name of declarations.
+#[tactic(auto, using(crate::proofs::Loops::steps))]
+fn declarations_name(signature: &Signature, functions: &[Function]) -> Option<Fault>
+    ensures { result ≡ first (found (declaration_names signature.now) functions.now) }
 {
-    for pair in pairs {
-        if let Some(fault) = existential_fault(scope, pair) {
-            return Ok(Some(fault));
+    for (k, function) in functions.iter().enumerate() {
+        if let Some(fault) = declaration_name(signature, &functions[..k], function) {
+            return Some(fault);
         }
-        keep(alloc, scope, name_in(pair))?;
     }
-    Ok(None)
+    None
 }
 
-/// The leftmost wrong name of a body, which is followed to this depth of lists. Without one the scope is as before.
-#[cycle(bodies)]
-#[tactic(auto, unfolding(crate::specs::FunctionNames::body_fault))]
-fn body_fault(
-    alloc: Global,
-    depth: u8,
-    signature: &Signature,
-    names: &NameTable,
-    scope: &mut NameTable,
-    form: &Sexpr,
-) -> Result<Option<Fault>, AllocError>
-    ensures fault { IfOk result (λ fault. fault ≡ body_fault depth signature.now names.now scope.old form.now) }
-    ensures scope { IfOk result (λ fault. fault ≡ None → scope.new ≡ scope.old) }
+/// The fault of a pattern's variable, where these names are in scope and these variables before it.
+#[tactic(auto, using(crate::proofs::Having::havings))]
+fn variable_name(scope: &[Bytes], before: &[Atom], name: &Atom) -> Option<Fault>
+    ensures { result ≡ first (unfit_name (scope.now ++ texts before.now) name.now) }
 {
-    if depth > 0 && begins(b"exists", form) {
-        let pairs = parts_of(item_of(form, 1));
-        if let Some(fault) = first_existential(alloc, scope, pairs)? {
-            return Ok(Some(fault));
-        }
-        let body = item_of(form, 2);
-        if let Some(fault) = body_fault(alloc, depth - 1, signature, names, scope, body)? {
-            return Ok(Some(fault));
-        }
-        leave(scope, pairs.len());
-        Ok(None)
-    } else if depth > 0 && begins(b"or", form) {
-        let branches = others_of(form);
-        Ok(first_branch(alloc, depth - 1, signature, names, scope, branches)?)
+    let text = name.bytes.as_slice();
+    if has(scope, text) || has_symbol(before, text) || is_reserved(text) {
+        Some(refusal(name.place, 21))
     } else {
-        Ok(expression_fault(depth, signature, names, scope, form))
+        None
     }
 }
 
-#[cycle(bodies)]
-#[tactic(auto, unfolding(crate::specs::FunctionNames::body_fault))]
-fn first_branch(
-    alloc: Global,
-    depth: u8,
-    signature: &Signature,
-    names: &NameTable,
-    scope: &mut NameTable,
-    forms: &[Sexpr],
-) -> Result<Option<Fault>, AllocError>
-    ensures fault { IfOk result (λ fault. fault ≡ first_of (body_fault depth signature.now names.now scope.old) forms.now) }
-    ensures scope { IfOk result (λ fault. fault ≡ None → scope.new ≡ scope.old) }
+/// The first wrong name of a pattern's variables.
+#[tactic(auto, using(crate::proofs::Firsts::firsts))]
+fn variables_name(scope: &[Bytes], variables: &[Atom]) -> Option<Fault>
+    ensures { result ≡ first (found (λ before variable. unfit_name (scope.now ++ texts before) variable) variables.now) }
 {
-    for form in forms {
-        if let Some(fault) = body_fault(alloc, depth, signature, names, scope, form)? {
+    for (k, variable) in variables.iter().enumerate() {
+        if let Some(fault) = variable_name(scope, &variables[..k], variable) {
+            return Some(fault);
+        }
+    }
+    None
+}
+
+/// The names, and those of symbols after them.
+fn with_texts(alloc: Global, names: &[Bytes], symbols: &[Atom]) -> Result<Names, AllocError>
+    ensures { IfOk result (λ all. all ≡ names.now ++ texts symbols.now) }
+{
+    let mut all = copy_names(alloc, names)?;
+    for symbol in symbols {
+        all.push(symbol.bytes.copy(alloc)?)?;
+    }
+    Ok(all)
+}
+
+/// The leftmost wrong name of a case, where these are the relations and the parameters.
+#[tactic(auto, using(crate::proofs::Firsts::firsts))]
+fn case_name(
+    alloc: Global,
+    signature: &Signature,
+    relations: &[Bytes],
+    scope: &[Bytes],
+    case: &Case,
+) -> Result<Option<Fault>, AllocError>
+    ensures { IfOk result (λ fault. fault ≡ first (case_names signature.now relations.now scope.now case.now)) }
+{
+    let name = &case.pattern.name;
+    if signature.constructor_named(name.bytes.as_slice()).is_none() {
+        return Ok(Some(refusal(name.place, 20)));
+    }
+    let variables = case.pattern.variables.as_slice();
+    if let Some(fault) = variables_name(scope, variables) {
+        return Ok(Some(fault));
+    }
+    let inside = with_texts(alloc, scope, variables)?;
+    Ok(body_name(alloc, relations, inside.as_slice(), &[], &case.body)?)
+}
+
+/// The leftmost wrong name of cases.
+#[tactic(auto, using(crate::proofs::Loops::steps))]
+fn cases_name(
+    alloc: Global,
+    signature: &Signature,
+    relations: &[Bytes],
+    scope: &[Bytes],
+    cases: &[Case],
+) -> Result<Option<Fault>, AllocError>
+    ensures { IfOk result (λ fault. fault ≡ first (flat_map (case_names signature.now relations.now scope.now) cases.now)) }
+{
+    for case in cases {
+        if let Some(fault) = case_name(alloc, signature, relations, scope, case)? {
             return Ok(Some(fault));
         }
     }
     Ok(None)
 }
 
-/// The first of the variables of a pattern with a wrong name. The names join the scope.
-fn first_variable(
-    alloc: Global,
-    scope: &mut NameTable,
-    names: &[Sexpr],
-) -> Result<Option<Fault>, AllocError>
-    ensures fault { IfOk result (λ fault. fault ≡ first_variable scope.old names.now) }
-    ensures names { IfOk result (λ fault. fault ≡ None → scope.new ≡ scope.old ++ map text_of names.now) }
+/// Puts symbols last.
+fn put_symbols(alloc: Global, symbols: &[Atom], out: &mut Symbols) -> Result<(), AllocError>
+    ensures { OnOk result (out.new ≡ out.old ++ symbols.now) }
 {
-    for name in names {
-        if let Some(fault) = new_variable_fault(scope, name) {
-            return Ok(Some(fault));
-        }
-        keep(alloc, scope, name)?;
-    }
-    Ok(None)
-}
-
-#[tactic(auto, unfolding(crate::specs::FunctionNames::pattern_fault))]
-fn pattern_fault(signature: &Signature, name: &Sexpr) -> Option<Fault>
-    ensures { result ≡ pattern_fault signature.now name.now }
-{
-    let is_known = signature.constructor_named(text_of(name)).is_some();
-    fault_if(!is_known, 20, name)
-}
-
-/// The leftmost wrong name of `(pattern body)`. Without one the scope is as before.
-fn case_fault(
-    alloc: Global,
-    signature: &Signature,
-    names: &NameTable,
-    scope: &mut NameTable,
-    form: &Sexpr,
-) -> Result<Option<Fault>, AllocError>
-    ensures fault { IfOk result (λ fault. fault ≡ case_fault signature.now names.now scope.old form.now) }
-    ensures scope { IfOk result (λ fault. fault ≡ None → scope.new ≡ scope.old) }
-{
-    let pattern = item_of(form, 0);
-    if let Some(fault) = pattern_fault(signature, name_in(pattern)) {
-        return Ok(Some(fault));
-    }
-    let variables = others_of(pattern);
-    if let Some(fault) = first_variable(alloc, scope, variables)? {
-        return Ok(Some(fault));
-    }
-    let body = item_of(form, 1);
-    if let Some(fault) = body_fault(alloc, DEEPEST, signature, names, scope, body)? {
-        return Ok(Some(fault));
-    }
-    leave(scope, variables.len());
-    Ok(None)
-}
-
-fn first_case(
-    alloc: Global,
-    signature: &Signature,
-    names: &NameTable,
-    scope: &mut NameTable,
-    forms: &[Sexpr],
-) -> Result<Option<Fault>, AllocError>
-    ensures { IfOk result (λ fault. fault ≡ first_of (case_fault signature.now names.now scope.old) forms.now) }
-{
-    for form in forms {
-        if let Some(fault) = case_fault(alloc, signature, names, scope, form)? {
-            return Ok(Some(fault));
-        }
-    }
-    Ok(None)
-}
-
-/// Puts the names that the forms declare last, each once.
-pub(crate) fn enter(alloc: Global, names: &mut NameTable, forms: &[Sexpr]) -> Result<(), AllocError>
-    ensures { IfOk result (λ _. names.new ≡ distinct_from names.old (names_in forms.now)) }
-{
-    for form in forms {
-        let name = name_in(form);
-        if !has(names, text_of(name)) {
-            keep(alloc, names, name)?;
-        }
+    for symbol in symbols {
+        out.push(Atom {
+            place: symbol.place,
+            bytes: symbol.bytes.copy(alloc)?,
+        })?;
     }
     Ok(())
 }
 
-/// The names that parameters bring into the scope of a definition, each once.
-pub(crate) fn scope_of(alloc: Global, pairs: &[Sexpr]) -> Result<NameTable, AllocError>
-    ensures { IfOk result (λ scope. scope ≡ scope_of pairs.now) }
+/// The names in the two lists of attributes, in their order.
+fn attributes_of(alloc: Global, definition: &Definition) -> Result<Symbols, AllocError>
+    ensures { IfOk result (λ names. names ≡ attributes_of definition.now) }
 {
-    let mut scope = NameTable::new(alloc);
-    enter(alloc, &mut scope, pairs)?;
-    Ok(scope)
+    let mut names = Symbols::new(alloc);
+    if definition.has_outputs_first {
+        put_symbols(alloc, definition.outputs.as_slice(), &mut names)?;
+        put_symbols(alloc, definition.inputs.as_slice(), &mut names)?;
+    } else {
+        put_symbols(alloc, definition.inputs.as_slice(), &mut names)?;
+        put_symbols(alloc, definition.outputs.as_slice(), &mut names)?;
+    }
+    Ok(names)
 }
 
-/// Whether the pair is a parameter of this name that isn't a term.
-fn is_plain(name: &[u8], pair: &Sexpr) -> bool
-    ensures { result ≡ is_plain name.now pair.now }
+/// Whether each parameter that isn't a term is among these names.
+fn are_listed(names: &[Atom], params: &[Pair]) -> bool
+    ensures { result ≡ list_all (has (texts names.now)) (names_in (plain_pairs params.now)) }
 {
-    is_sort(sort_in(pair)) && is_word(name, text_of(name_in(pair)))
-}
-
-/// Whether the pair is a parameter of this name that is a term.
-fn is_term(name: &[u8], pair: &Sexpr) -> bool
-    ensures { result ≡ is_term name.now pair.now }
-{
-    !is_sort(sort_in(pair)) && is_word(name, text_of(name_in(pair)))
-}
-
-fn stands(forms: &[Sexpr], name: &[u8]) -> bool
-    ensures { result ≡ stands forms.now name.now }
-{
-    forms.iter().any(|form| is_word(text_of(form), name))
-}
-
-/// Whether the parameter is a term, or stands in one of the two lists of the definition's attributes.
-fn is_listed(form: &Sexpr, pair: &Sexpr) -> bool
-    ensures { result ≡ is_listed form.now pair.now }
-{
-    let name = text_of(name_in(pair));
-    !is_sort(sort_in(pair))
-        || stands(parts_of(item_of(form, 3)), name)
-        || stands(parts_of(item_of(form, 5)), name)
-}
-
-#[tactic(auto, unfolding(crate::specs::FunctionNames::lists_fault))]
-fn lists_fault(pairs: &[Sexpr], form: &Sexpr) -> Option<Fault>
-    ensures { result ≡ lists_fault pairs.now form.now }
-{
-    fault_if(!are_listed(form, pairs), 20, form)
-}
-
-fn are_listed(form: &Sexpr, pairs: &[Sexpr]) -> bool
-    ensures { result ≡ list_all (is_listed form.now) pairs.now }
-{
-    pairs.iter().all(|pair| is_listed(form, pair))
-}
-
-#[tactic(auto, unfolding(crate::specs::FunctionNames::match_fault))]
-fn match_fault(pairs: &[Sexpr], name: &Sexpr) -> Option<Fault>
-    ensures { result ≡ match_fault pairs.now name.now }
-{
-    fault_if(!has_term(pairs, text_of(name)), 20, name)
-}
-
-fn has_term(pairs: &[Sexpr], name: &[u8]) -> bool
-    ensures { result ≡ list_any (is_term name.now) pairs.now }
-{
-    pairs.iter().any(|pair| is_term(name, pair))
-}
-
-fn has_plain(pairs: &[Sexpr], name: &[u8]) -> bool
-    ensures { result ≡ list_any (is_plain name.now) pairs.now }
-{
-    pairs.iter().any(|pair| is_plain(name, pair))
-}
-
-#[tactic(auto, unfolding(crate::specs::FunctionNames::attribute_fault))]
-fn attribute_fault(pairs: &[Sexpr], seen: &NameTable, name: &Sexpr) -> Option<Fault>
-    ensures value { result ≡ attribute_fault pairs.now seen.now name.now }
-    ensures new { result ≡ None → has seen.now (text_of name.now) ≡ false }
-{
-    let text = text_of(name);
-    fault_if(!has_plain(pairs, text), 20, name).or(fault_if(has(seen, text), 21, name))
-}
-
-/// The first of the names of an attribute that is wrong. The names join those before them.
-fn first_attribute(
-    alloc: Global,
-    pairs: &[Sexpr],
-    seen: &mut NameTable,
-    names: &[Sexpr],
-) -> Result<Option<Fault>, AllocError>
-    ensures fault { IfOk result (λ fault. fault ≡ first_attribute pairs.now seen.old names.now) }
-    ensures seen { IfOk result (λ fault. fault ≡ None → seen.new ≡ seen.old ++ map text_of names.now) }
-{
-    for name in names {
-        if let Some(fault) = attribute_fault(pairs, seen, name) {
-            return Ok(Some(fault));
+    for pair in params {
+        if is_plain(pair) && !has_symbol(names, pair.name.bytes.as_slice()) {
+            return false;
         }
-        keep(alloc, seen, name)?;
     }
-    Ok(None)
+    true
 }
 
-fn attributes_fault(
-    alloc: Global,
-    pairs: &[Sexpr],
-    form: &Sexpr,
-) -> Result<Option<Fault>, AllocError>
-    ensures { IfOk result (λ fault. fault ≡ attributes_fault pairs.now form.now) }
+/// The fault of a name of an attribute, where these are before it.
+#[tactic(auto, using(crate::proofs::Firsts::firsts))]
+fn attribute_name(params: &[Pair], before: &[Atom], name: &Atom) -> Option<Fault>
+    ensures { result ≡ first (attribute_names params.now before.now name.now) }
 {
-    let mut seen = NameTable::new(alloc);
-    let first = parts_of(item_of(form, 3));
-    if let Some(fault) = first_attribute(alloc, pairs, &mut seen, first)? {
-        return Ok(Some(fault));
+    let text = name.bytes.as_slice();
+    if !has_plain(params, text) {
+        return Some(refusal(name.place, 20));
     }
-    let second = parts_of(item_of(form, 5));
-    Ok(first_attribute(alloc, pairs, &mut seen, second)?)
+    if has_symbol(before, text) {
+        return Some(refusal(name.place, 21));
+    }
+    None
 }
 
-/// The leftmost wrong name of the definition of a relation with these parameters.
-fn definition_fault(
+/// The first wrong name of the attributes.
+#[tactic(auto, using(crate::proofs::Firsts::firsts))]
+fn attributes_name(params: &[Pair], names: &[Atom]) -> Option<Fault>
+    ensures { result ≡ first (found (attribute_names params.now) names.now) }
+{
+    for (k, name) in names.iter().enumerate() {
+        if let Some(fault) = attribute_name(params, &names[..k], name) {
+            return Some(fault);
+        }
+    }
+    None
+}
+
+/// The fault of the head of a definition, which has these attributes: a parameter that stands in neither list, or a
+/// match of what is no term.
+#[tactic(auto, using(crate::proofs::Firsts::firsts))]
+fn heading_name(names: &[Atom], function: &Function) -> Option<Fault>
+    requires { names.now ≡ attributes_of function.now.definition }
+    ensures { result ≡ first (bad_if (not (are_listed function.now)) 20 function.now.definition.place
+        ++ unknown_name (names_in (term_pairs function.now.declaration.params)) function.now.definition.matched) }
+{
+    let params = function.declaration.params.as_slice();
+    if !are_listed(names, params) {
+        return Some(refusal(function.definition.place, 20));
+    }
+    let matched = &function.definition.matched;
+    if has_term(params, matched.bytes.as_slice()) {
+        None
+    } else {
+        Some(refusal(matched.place, 20))
+    }
+}
+
+/// The leftmost wrong name of a function's cases.
+fn inner_name(
     alloc: Global,
     signature: &Signature,
-    names: &NameTable,
-    pairs: &[Sexpr],
-    form: &Sexpr,
+    relations: &[Bytes],
+    function: &Function,
 ) -> Result<Option<Fault>, AllocError>
-    ensures { IfOk result (λ fault. fault ≡ definition_fault signature.now names.now pairs.now form.now) }
+    ensures { IfOk result (λ fault. fault ≡ first (flat_map
+        (case_names signature.now relations.now (names_in function.now.declaration.params)) function.now.definition.cases)) }
 {
-    if let Some(fault) = lists_fault(pairs, form) {
-        return Ok(Some(fault));
-    }
-    if let Some(fault) = match_fault(pairs, item_of(item_of(form, 1), 1)) {
-        return Ok(Some(fault));
-    }
-    let mut scope = scope_of(alloc, pairs)?;
-    if let Some(fault) = first_case(alloc, signature, names, &mut scope, cases_of(form))? {
-        return Ok(Some(fault));
-    }
-    Ok(attributes_fault(alloc, pairs, form)?)
+    let mut scope = Names::new(alloc);
+    put_names(alloc, function.declaration.params.as_slice(), &mut scope)?;
+    let cases = function.definition.cases.as_slice();
+    Ok(cases_name(alloc, signature, relations, scope.as_slice(), cases)?)
 }
 
-/// The parameters of the k-th of the declarations.
-pub(crate) fn parameters_at(declarations: &[Sexpr], k: usize) -> &[Sexpr]
-    ensures { result.now ≡ parameters_at declarations.now k }
-{
-    match at(declarations, k) {
-        Some(form) => parameters_of(form),
-        None => &[],
-    }
-}
-
-fn first_definition(
+/// The leftmost wrong name of a definition.
+#[tactic(auto, using(crate::proofs::Firsts::firsts))]
+fn definition_name(
     alloc: Global,
     signature: &Signature,
-    names: &NameTable,
-    declarations: &[Sexpr],
-    forms: &[Sexpr],
+    relations: &[Bytes],
+    function: &Function,
 ) -> Result<Option<Fault>, AllocError>
-    ensures { IfOk result (λ fault. fault ≡ first_definition signature.now names.now declarations.now 0 forms.now) }
+    ensures { IfOk result (λ fault. fault ≡ first (definition_names signature.now relations.now function.now)) }
 {
-    for (k, form) in forms.iter().enumerate() {
-        let pairs = parameters_at(declarations, k);
-        if let Some(fault) = definition_fault(alloc, signature, names, pairs, form)? {
+    let names = attributes_of(alloc, &function.definition)?;
+    if let Some(fault) = heading_name(names.as_slice(), function) {
+        return Ok(Some(fault));
+    }
+    if let Some(fault) = inner_name(alloc, signature, relations, function)? {
+        return Ok(Some(fault));
+    }
+    Ok(attributes_name(function.declaration.params.as_slice(), names.as_slice()))
+}
+
+/// The leftmost wrong name of definitions.
+#[tactic(auto, using(crate::proofs::Loops::steps))]
+fn definitions_name(
+    alloc: Global,
+    signature: &Signature,
+    relations: &[Bytes],
+    functions: &[Function],
+) -> Result<Option<Fault>, AllocError>
+    ensures { IfOk result (λ fault. fault ≡ first (flat_map (definition_names signature.now relations.now) functions.now)) }
+{
+    for function in functions {
+        if let Some(fault) = definition_name(alloc, signature, relations, function)? {
             return Ok(Some(fault));
         }
     }
     Ok(None)
 }
 
-/// The leftmost wrong name of a `define-funs-rec`.
-pub(crate) fn functions_fault(
+/// Puts the names of functions last.
+fn put_functions(alloc: Global, functions: &[Function], out: &mut Names) -> Result<(), AllocError>
+    ensures { OnOk result (out.new ≡ out.old ++ function_names functions.now) }
+{
+    for function in functions {
+        out.push(function.declaration.name.bytes.copy(alloc)?)?;
+    }
+    Ok(())
+}
+
+/// The names of the signature's relations.
+fn relation_names(alloc: Global, signature: &Signature) -> Result<Names, AllocError>
+    ensures { IfOk result (λ names. names ≡ relation_names signature.now.relations) }
+{
+    let mut names = Names::new(alloc);
+    for number in 0..signature.relations() {
+        let relation = signature.relation(RelId(number));
+        names.push(relation.name.copy(alloc)?)?;
+    }
+    Ok(names)
+}
+
+/// The leftmost wrong name of functions.
+#[tactic(auto, using(crate::proofs::Firsts::firsts))]
+pub(crate) fn functions_name(
     alloc: Global,
     signature: &Signature,
-    form: &Sexpr,
+    functions: &[Function],
 ) -> Result<Option<Fault>, AllocError>
-    ensures { IfOk result (λ fault. fault ≡ functions_fault signature.now form.now) }
+    ensures { IfOk result (λ fault. fault ≡ first (functions_names signature.now functions.now)) }
 {
-    let declarations = parts_of(item_of(form, 1));
-    let mut names = NameTable::new(alloc);
-    if let Some(fault) = first_relation(alloc, signature, &mut names, declarations)? {
+    if let Some(fault) = declarations_name(signature, functions) {
         return Ok(Some(fault));
     }
-    let definitions = parts_of(item_of(form, 2));
-    Ok(first_definition(alloc, signature, &names, declarations, definitions)?)
+    let mut relations = relation_names(alloc, signature)?;
+    put_functions(alloc, functions, &mut relations)?;
+    Ok(definitions_name(alloc, signature, relations.as_slice(), functions)?)
 }

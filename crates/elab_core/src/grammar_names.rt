@@ -1,320 +1,233 @@
-//! The names of grammars and of examples.
-ghost use Rattle.std.specs.Prelude.{◌≡◌, ◌++◌, ◌∷◌, [], None, false, IfOk};
-ghost use Rattle.elab_core.specs.Limits.{name_in};
-ghost use Rattle.elab_core.specs.Names.{has, names_in, text_of};
-ghost use Rattle.elab_core.specs.FunctionNames.{first_of};
-ghost use Rattle.elab_core.specs.GrammarNames.{argument_fault, call_fault, called_fault, constructor_fault, declared_at, example_fault, first_group, first_nonterminal, grammar_fault, group_fault, group_name_fault, known_type_fault, nested_fault, new_nonterminal_fault, nonterminal_fault, production_fault, symbol_fault, value_fault, wanted_fault, wrong_name};
+//! The names of grammars.
+ghost use Rattle.std.specs.Prelude.{◌≡◌, ◌≤◌, ◌++◌, [], ◌∷◌, map, length, IfOk};
+ghost use Rattle.std.specs.List.{flat_map, zip};
+ghost use Rattle.sig_core.specs.WellFormed.{constructor_names};
+ghost use Rattle.syntax_core.specs.Syntax.{atom_of, item_of, others_of};
+ghost use Rattle.elab_core.specs.Faults.{first, found};
+ghost use Rattle.elab_core.specs.Names.{group_names, names_in, nonterminal_names, production_names, taken_name, unhad_name, unknown_name, wanted_names};
 
-use crate::bodies::{DEEPEST, begins, others_of};
-use crate::commands::Head;
-use crate::fault::Fault;
-use crate::function_names::{functions_fault, is_constant};
-use crate::heads::is_word;
-use crate::limits::{item_of, name_in};
-use crate::names::{fault_if, has, keep, text_of, types_fault};
-use crate::shapes::parts_of;
-use items::at;
-use sexpr_core::Sexpr;
-use sig_core::{NameTable, Signature};
+use crate::function_names::has_pair;
+use sexpr_core::{Atom, Sexpr};
+use sig_core::Signature;
 use std::alloc::{AllocError, Global};
+use syntax_core::{Fault, Pair, item_of, items_at, nonterminals_of, others_of, refusal};
 
-/// A fault where the symbol is no declared type.
-#[tactic(auto, unfolding(crate::specs::GrammarNames::known_type_fault))]
-fn known_type_fault(signature: &Signature, name: &Sexpr) -> Option<Fault>
-    ensures { result ≡ known_type_fault signature.now name.now }
+/// The name of a symbol, empty where the form is none.
+fn text_of(form: &Sexpr) -> &[u8]
+    ensures { result.now ≡ (atom_of form.now).bytes }
 {
-    fault_if(signature.type_named(text_of(name)).is_none(), 20, name)
+    form.symbol().unwrap_or(&[])
 }
 
-#[tactic(auto, unfolding(crate::specs::GrammarNames::new_nonterminal_fault))]
-fn new_nonterminal_fault(signature: &Signature, names: &NameTable, name: &Sexpr) -> Option<Fault>
-    ensures value { result ≡ new_nonterminal_fault signature.now names.now name.now }
-    ensures new { result ≡ None → has names.now (text_of name.now) ≡ false }
+/// The fault of a symbol that is no type.
+fn wanted_type_name(signature: &Signature, form: &Sexpr) -> Option<Fault>
+    ensures { result ≡ first (unknown_name signature.now.types (atom_of form.now)) }
 {
-    let text = text_of(name);
-    let is_taken = has(names, text) || signature.constructor_named(text).is_some();
-    fault_if(is_taken, 21, name)
+    if signature.type_named(text_of(form)).is_some() {
+        None
+    } else {
+        Some(refusal(form.place(), 20))
+    }
 }
 
-fn nonterminal_fault(signature: &Signature, names: &NameTable, pair: &Sexpr) -> Option<Fault>
-    ensures value { result ≡ nonterminal_fault signature.now names.now pair.now }
-    ensures new { result ≡ None → has names.now (text_of (name_in pair.now)) ≡ false }
+fn nonterminal_type_name(signature: &Signature, name: &Atom) -> Option<Fault>
+    ensures { result ≡ first (unknown_name signature.now.types name.now) }
 {
-    if let Some(fault) = new_nonterminal_fault(signature, names, name_in(pair)) {
+    if signature.type_named(name.bytes.as_slice()).is_some() {
+        None
+    } else {
+        Some(refusal(name.place, 20))
+    }
+}
+
+/// The fault of a nonterminal's name, where these are before it.
+#[tactic(auto, using(crate::proofs::Having::havings))]
+fn new_nonterminal_name(signature: &Signature, before: &[Pair], name: &Atom) -> Option<Fault>
+    ensures { result ≡ first (taken_name (names_in before.now ++ constructor_names signature.now.constructors) name.now) }
+{
+    let text = name.bytes.as_slice();
+    if has_pair(before, text) || signature.constructor_named(text).is_some() {
+        Some(refusal(name.place, 21))
+    } else {
+        None
+    }
+}
+
+/// The leftmost wrong name of a nonterminal, where these are before it.
+#[tactic(auto, using(crate::proofs::Firsts::firsts))]
+fn nonterminal_name(signature: &Signature, before: &[Pair], pair: &Pair) -> Option<Fault>
+    ensures { result ≡ first (nonterminal_names signature.now before.now pair.now) }
+{
+    if let Some(fault) = new_nonterminal_name(signature, before, &pair.name) {
         return Some(fault);
     }
-    known_type_fault(signature, item_of(pair, 1))
+    nonterminal_type_name(signature, &pair.sort)
 }
 
-/// The first of the nonterminals with a wrong name. The names join those before them.
-fn first_nonterminal(
-    alloc: Global,
-    signature: &Signature,
-    names: &mut NameTable,
-    pairs: &[Sexpr],
-) -> Result<Option<Fault>, AllocError>
-    ensures fault { IfOk result (λ fault. fault ≡ first_nonterminal signature.now names.old pairs.now) }
-    ensures names { IfOk result (λ fault. fault ≡ None → names.new ≡ names.old ++ names_in pairs.now) }
+/// The leftmost wrong name of nonterminals.
+#[tactic(auto, using(crate::proofs::Firsts::firsts))]
+fn nonterminals_name(signature: &Signature, pairs: &[Pair]) -> Option<Fault>
+    ensures { result ≡ first (found (nonterminal_names signature.now) pairs.now) }
 {
-    for pair in pairs {
-        if let Some(fault) = nonterminal_fault(signature, names, pair) {
-            return Ok(Some(fault));
+    for (k, pair) in pairs.iter().enumerate() {
+        if let Some(fault) = nonterminal_name(signature, &pairs[..k], pair) {
+            return Some(fault);
         }
-        keep(alloc, names, name_in(pair))?;
     }
-    Ok(None)
+    None
 }
 
-#[tactic(auto, unfolding(crate::specs::GrammarNames::constructor_fault))]
-fn constructor_fault(signature: &Signature, name: &Sexpr) -> Option<Fault>
-    ensures { result ≡ constructor_fault signature.now name.now }
+/// The fault of a production that is a symbol: reason 13 at a nonterminal, 20 at what is neither that nor a
+/// constructor.
+fn symbol_name(signature: &Signature, nonterminals: &[Pair], form: &Sexpr) -> Option<Fault>
+    ensures { result ≡ first (unhad_name (constructor_names signature.now.constructors) (names_in nonterminals.now) form.now) }
 {
-    fault_if(
-        signature.constructor_named(text_of(name)).is_none(),
-        20,
-        name,
-    )
-}
-
-/// The fault of a production that is a symbol: it is a constructor; a nonterminal alone can't be had.
-#[tactic(auto, unfolding(crate::specs::GrammarNames::symbol_fault))]
-fn symbol_fault(signature: &Signature, names: &NameTable, form: &Sexpr) -> Option<Fault>
-    ensures { result ≡ symbol_fault signature.now names.now form.now }
-{
-    let text = text_of(form);
+    let Some(text) = form.symbol() else {
+        return Some(refusal(form.place(), 13));
+    };
     if signature.constructor_named(text).is_some() {
         return None;
     }
-    fault_if(true, if has(names, text) { 13 } else { 20 }, form)
+    let is_nonterminal = has_pair(nonterminals, text);
+    Some(refusal(form.place(), if is_nonterminal { 13 } else { 20 }))
 }
 
-/// The fault of a symbol as an argument: it is a nonterminal; a constructor can't be had there.
-#[tactic(auto, unfolding(crate::specs::GrammarNames::nested_fault))]
-fn nested_fault(signature: &Signature, names: &NameTable, form: &Sexpr) -> Option<Fault>
-    ensures { result ≡ nested_fault signature.now names.now form.now }
+/// The fault of a production's argument: reason 13 at a list or a constructor, 20 at what is neither that nor a
+/// nonterminal.
+fn argument_name(signature: &Signature, nonterminals: &[Pair], form: &Sexpr) -> Option<Fault>
+    ensures { result ≡ first (unhad_name (names_in nonterminals.now) (constructor_names signature.now.constructors) form.now) }
 {
-    let text = text_of(form);
-    if has(names, text) {
+    let Some(text) = form.symbol() else {
+        return Some(refusal(form.place(), 13));
+    };
+    if has_pair(nonterminals, text) {
         return None;
     }
     let is_constructor = signature.constructor_named(text).is_some();
-    fault_if(true, if is_constructor { 13 } else { 20 }, form)
+    Some(refusal(form.place(), if is_constructor { 13 } else { 20 }))
 }
 
-fn argument_fault(signature: &Signature, names: &NameTable, form: &Sexpr) -> Option<Fault>
-    ensures { result ≡ argument_fault signature.now names.now form.now }
-{
-    if form.symbol().is_some() {
-        nested_fault(signature, names, form)
-    } else {
-        fault_if(true, 13, form)
-    }
-}
-
-fn first_argument(signature: &Signature, names: &NameTable, forms: &[Sexpr]) -> Option<Fault>
-    ensures { result ≡ first_of (argument_fault signature.now names.now) forms.now }
+/// The first wrong name of a production's arguments.
+#[tactic(auto, using(crate::proofs::Firsts::firsts))]
+fn arguments_name(signature: &Signature, nonterminals: &[Pair], forms: &[Sexpr]) -> Option<Fault>
+    ensures { result ≡ first (flat_map (unhad_name (names_in nonterminals.now) (constructor_names signature.now.constructors)) forms.now) }
 {
     for form in forms {
-        if let Some(fault) = argument_fault(signature, names, form) {
+        if let Some(fault) = argument_name(signature, nonterminals, form) {
             return Some(fault);
         }
     }
     None
 }
 
-fn production_fault(signature: &Signature, names: &NameTable, form: &Sexpr) -> Option<Fault>
-    ensures { result ≡ production_fault signature.now names.now form.now }
+/// The fault of a symbol that is no constructor.
+fn constructor_name(signature: &Signature, form: &Sexpr) -> Option<Fault>
+    ensures { result ≡ first (unknown_name (constructor_names signature.now.constructors) (atom_of form.now)) }
 {
-    if form.symbol().is_some() {
-        return symbol_fault(signature, names, form);
+    if signature.constructor_named(text_of(form)).is_some() {
+        None
+    } else {
+        Some(refusal(form.place(), 20))
     }
-    if let Some(fault) = constructor_fault(signature, item_of(form, 0)) {
+}
+
+/// The leftmost wrong name of a production that is a list.
+#[tactic(auto, using(crate::proofs::Firsts::firsts))]
+fn list_name(signature: &Signature, nonterminals: &[Pair], form: &Sexpr) -> Option<Fault>
+    ensures { result ≡ first (unknown_name (constructor_names signature.now.constructors) (atom_of (item_of 0 form.now))
+        ++ flat_map (unhad_name (names_in nonterminals.now) (constructor_names signature.now.constructors)) (others_of form.now)) }
+{
+    if let Some(fault) = constructor_name(signature, item_of(0, form)) {
         return Some(fault);
     }
-    first_argument(signature, names, others_of(form))
+    arguments_name(signature, nonterminals, others_of(form))
 }
 
-fn first_production(signature: &Signature, names: &NameTable, forms: &[Sexpr]) -> Option<Fault>
-    ensures { result ≡ first_of (production_fault signature.now names.now) forms.now }
+/// The leftmost wrong name of a production.
+fn production_name(signature: &Signature, nonterminals: &[Pair], form: &Sexpr) -> Option<Fault>
+    ensures { result ≡ first (production_names (names_in nonterminals.now) (constructor_names signature.now.constructors) form.now) }
+{
+    if form.symbol().is_some() {
+        symbol_name(signature, nonterminals, form)
+    } else {
+        list_name(signature, nonterminals, form)
+    }
+}
+
+/// The leftmost wrong name of productions.
+#[tactic(auto, using(crate::proofs::Firsts::firsts))]
+fn productions_name(signature: &Signature, nonterminals: &[Pair], forms: &[Sexpr]) -> Option<Fault>
+    ensures { result ≡ first (flat_map (production_names (names_in nonterminals.now) (constructor_names signature.now.constructors)) forms.now) }
 {
     for form in forms {
-        if let Some(fault) = production_fault(signature, names, form) {
+        if let Some(fault) = production_name(signature, nonterminals, form) {
             return Some(fault);
         }
     }
     None
 }
 
-/// The name of the nonterminal that is declared at this number.
-fn declared_at(pairs: &[Sexpr], k: usize) -> &[u8]
-    ensures { result.now ≡ declared_at pairs.now k }
+/// The fault of a group's name that isn't the declared one.
+fn group_name(name: &Atom, form: &Sexpr) -> Option<Fault>
+    ensures { result ≡ first (unknown_name (name.now.bytes ∷ []) (atom_of form.now)) }
 {
-    match at(pairs, k) {
-        Some(pair) => text_of(name_in(pair)),
-        None => &[],
+    if name.bytes.as_slice() == text_of(form) {
+        None
+    } else {
+        Some(refusal(form.place(), 20))
     }
 }
 
-#[tactic(auto, unfolding(crate::specs::GrammarNames::group_name_fault))]
-fn group_name_fault(pairs: &[Sexpr], k: usize, name: &Sexpr) -> Option<Fault>
-    ensures { result ≡ group_name_fault pairs.now k name.now }
-{
-    fault_if(!is_word(text_of(name), declared_at(pairs, k)), 20, name)
-}
-
-/// The leftmost wrong name of the k-th group of productions.
+/// The leftmost wrong name of a nonterminal's group.
+#[tactic(auto, using(crate::proofs::Firsts::firsts))]
 fn group_fault(
     signature: &Signature,
-    names: &NameTable,
-    pairs: &[Sexpr],
-    k: usize,
-    form: &Sexpr,
+    nonterminals: &[Pair],
+    pair: &Pair,
+    group: &Sexpr,
 ) -> Option<Fault>
-    ensures { result ≡ group_fault signature.now names.now pairs.now k form.now }
+    ensures { result ≡ first (group_names signature.now (names_in nonterminals.now) (pair.now, group.now)) }
 {
-    if let Some(fault) = group_name_fault(pairs, k, item_of(form, 0)) {
+    if let Some(fault) = group_name(&pair.name, item_of(0, group)) {
         return Some(fault);
     }
-    if let Some(fault) = known_type_fault(signature, item_of(form, 1)) {
+    if let Some(fault) = wanted_type_name(signature, item_of(1, group)) {
         return Some(fault);
     }
-    first_production(signature, names, parts_of(item_of(form, 2)))
+    productions_name(signature, nonterminals, items_at(2, group))
 }
 
-fn first_group(
-    signature: &Signature,
-    names: &NameTable,
-    pairs: &[Sexpr],
-    forms: &[Sexpr],
-) -> Option<Fault>
-    ensures { result ≡ first_group signature.now names.now pairs.now 0 forms.now }
+/// The leftmost wrong name of the nonterminals' groups.
+#[tactic(auto, using(crate::proofs::Loops::steps))]
+fn groups_name(signature: &Signature, nonterminals: &[Pair], groups: &[Sexpr]) -> Option<Fault>
+    ensures { result ≡ first (flat_map (group_names signature.now (names_in nonterminals.now)) (zip nonterminals.now groups.now)) }
 {
-    for (k, form) in forms.iter().enumerate() {
-        if let Some(fault) = group_fault(signature, names, pairs, k, form) {
+    for (k, pair) in nonterminals.iter().enumerate() {
+        if k >= groups.len() {
+            return None;
+        }
+        if let Some(fault) = group_fault(signature, nonterminals, pair, &groups[k]) {
             return Some(fault);
         }
     }
     None
-}
-
-fn grammar_fault(
-    alloc: Global,
-    signature: &Signature,
-    form: &Sexpr,
-) -> Result<Option<Fault>, AllocError>
-    ensures { IfOk result (λ fault. fault ≡ grammar_fault signature.now form.now) }
-{
-    if parts_of(form).len() <= 4 {
-        return Ok(None);
-    }
-    let pairs = parts_of(item_of(form, 4));
-    let mut names = NameTable::new(alloc);
-    if let Some(fault) = first_nonterminal(alloc, signature, &mut names, pairs)? {
-        return Ok(Some(fault));
-    }
-    let groups = parts_of(item_of(form, 5));
-    Ok(first_group(signature, &names, pairs, groups))
 }
 
 /// The leftmost wrong name of a `synth-fun`.
-fn wanted_fault(
+#[tactic(auto, using(crate::proofs::Firsts::firsts))]
+pub(crate) fn wanted_name(
     alloc: Global,
     signature: &Signature,
     form: &Sexpr,
 ) -> Result<Option<Fault>, AllocError>
-    ensures { IfOk result (λ fault. fault ≡ wanted_fault signature.now form.now) }
+    ensures { IfOk result (λ fault. fault ≡ first (wanted_names signature.now form.now)) }
 {
-    if let Some(fault) = known_type_fault(signature, item_of(form, 3)) {
+    if let Some(fault) = wanted_type_name(signature, item_of(3, form)) {
         return Ok(Some(fault));
     }
-    Ok(grammar_fault(alloc, signature, form)?)
-}
-
-#[tactic(auto, unfolding(crate::specs::GrammarNames::called_fault))]
-fn called_fault(signature: &Signature, name: &Sexpr) -> Option<Fault>
-    ensures { result ≡ called_fault signature.now name.now }
-{
-    fault_if(signature.relation_named(text_of(name)).is_none(), 20, name)
-}
-
-/// The fault of a symbol of an example that is neither the wanted function nor a constant.
-#[tactic(auto, unfolding(crate::specs::GrammarNames::value_fault))]
-fn value_fault(wanted: &[u8], form: &Sexpr) -> Option<Fault>
-    ensures { result ≡ value_fault wanted.now form.now }
-{
-    let text = text_of(form);
-    let is_known = is_word(text, wanted) || is_constant(text);
-    fault_if(form.symbol().is_some() && !is_known, 20, form)
-}
-
-fn first_value(wanted: &[u8], forms: &[Sexpr]) -> Option<Fault>
-    ensures { result ≡ first_of (value_fault wanted.now) forms.now }
-{
-    for form in forms {
-        if let Some(fault) = value_fault(wanted, form) {
-            return Some(fault);
-        }
+    let nonterminals = nonterminals_of(alloc, form)?;
+    if let Some(fault) = nonterminals_name(signature, nonterminals.as_slice()) {
+        return Ok(Some(fault));
     }
-    None
-}
-
-fn call_fault(signature: &Signature, wanted: &[u8], form: &Sexpr) -> Option<Fault>
-    ensures { result ≡ call_fault signature.now wanted.now form.now }
-{
-    match called_fault(signature, item_of(form, 0)) {
-        Some(fault) => Some(fault),
-        None => first_value(wanted, others_of(form)),
-    }
-}
-
-/// The leftmost wrong name of an example, which is followed to this depth of lists.
-#[cycle(examples)]
-#[tactic(auto, unfolding(crate::specs::GrammarNames::example_fault))]
-fn example_fault(depth: u8, signature: &Signature, wanted: &[u8], form: &Sexpr) -> Option<Fault>
-    ensures { result ≡ example_fault depth signature.now wanted.now form.now }
-{
-    if depth > 0 && begins(b"and", form) {
-        first_example(depth - 1, signature, wanted, others_of(form))
-    } else {
-        call_fault(signature, wanted, form)
-    }
-}
-
-#[cycle(examples)]
-#[tactic(auto, unfolding(crate::specs::GrammarNames::example_fault))]
-fn first_example(depth: u8, signature: &Signature, wanted: &[u8], forms: &[Sexpr]) -> Option<Fault>
-    ensures { result ≡ first_of (example_fault depth signature.now wanted.now) forms.now }
-{
-    for form in forms {
-        if let Some(fault) = example_fault(depth, signature, wanted, form) {
-            return Some(fault);
-        }
-    }
-    None
-}
-
-/// The leftmost symbol of a command that is wrongly a name, with the least reason there: 13 at a production or an
-/// argument of one that can't be had, 20 at an unknown name, 21 at a new name that is taken or reserved.
-///
-/// The command has its shape and passes no limit. The signature is that of the commands before, and `wanted` the name
-/// of the wanted function, empty before there is one.
-pub fn wrong_name(
-    alloc: Global,
-    signature: &Signature,
-    wanted: &[u8],
-    command: Head,
-    form: &Sexpr,
-) -> Result<Option<Fault>, AllocError>
-    ensures { IfOk result (λ fault. fault ≡ wrong_name signature.now wanted.now command form.now) }
-{
-    match command {
-        Head::SetInfo | Head::CheckSynth => Ok(None),
-        Head::DeclareTermTypes => Ok(types_fault(alloc, signature, form)?),
-        Head::DefineFunsRec => Ok(functions_fault(alloc, signature, form)?),
-        Head::SynthFun => Ok(wanted_fault(alloc, signature, form)?),
-        Head::Constraint => {
-            let example = item_of(form, 1);
-            Ok(example_fault(DEEPEST, signature, wanted, example))
-        }
-    }
+    Ok(groups_name(signature, nonterminals.as_slice(), items_at(5, form)))
 }

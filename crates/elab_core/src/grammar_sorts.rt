@@ -1,132 +1,141 @@
-//! The sorts of grammars and of examples.
-ghost use Rattle.std.specs.Prelude.{◌≡◌, false, IfOk};
-ghost use Rattle.std.specs.Option.{option_map_or};
-ghost use Rattle.sexpr_core.specs.Access.{numeral_of};
-ghost use Rattle.elab_core.specs.FunctionNames.{first_of};
-ghost use Rattle.elab_core.specs.Sorts.{first_operand, is_above};
-ghost use Rattle.elab_core.specs.GrammarSorts.{are_of_type, argument_fault, bound_in, call_fault, child_is, declared_type, example_fault, first_group, group_fault, head_fault, is_literal_of, is_wanted_name, literal_sort, nonterminal_type, number_in, pair_type, production_fault, range_fault, start_fault, value_at, value_fault, wanted_fault, wrong_sort};
-ghost use Rattle.elab_core.specs.FunctionSorts.{constructor_at};
+//! The sorts of grammars.
+ghost use Rattle.std.specs.Prelude.{◌≡◌, Some, None, option_map, if◌then◌else◌, IfOk};
+ghost use Rattle.std.specs.List.{flat_map, zip};
+ghost use Rattle.std.specs.Option.{option_copied};
+ghost use Rattle.rule_core.specs.Flow.{same_type};
+ghost use Rattle.syntax_core.specs.Syntax.{atom_of, item_of, items_at, name_of, nonterminals_of};
+ghost use Rattle.elab_core.specs.Faults.{first, found_from};
+ghost use Rattle.elab_core.specs.Relations.{child_type, sort_of_pair, type_named};
+ghost use Rattle.elab_core.specs.Sorts.{constructor_at, group_faults, makes, production_argument, production_faults, start_faults, wanted_faults};
 
-use crate::bodies::{DEEPEST, begins, others_of};
-use crate::commands::Head;
-use crate::dues::name_at_front;
-use crate::fault::Fault;
-use crate::function_names::{is_constant, is_negative, sort_in};
-use crate::function_sorts::{called_kinds, functions_fault, is_made_by};
-use crate::heads::is_word;
-use crate::limits::{item_of, name_in};
-use crate::names::{fault_if, text_of};
-use crate::shapes::parts_of;
-use crate::sorts::{MOST, after_sign, is_above, sort_of_constant};
-use crate::variables::{Variable, type_of};
+use crate::functions::type_named;
 use items::at;
 use sexpr_core::Sexpr;
-use sig_core::{Signature, Sort, TypeId};
+use sig_core::{Constructor, Signature, TypeId};
 use std::alloc::{AllocError, Global};
+use syntax_core::{Fault, Pair, Pairs, item_of, items_at, others_of, pair_of, refusal};
 
-/// A fault where the symbol isn't the type of this name.
-#[tactic(auto, unfolding(crate::specs::GrammarSorts::start_fault))]
-fn start_fault(wanted: &[u8], name: &Sexpr) -> Option<Fault>
-    ensures { result ≡ start_fault wanted.now name.now }
+/// The bytes of the symbol that the form is; none where it is none.
+fn text_of(form: &Sexpr) -> &[u8]
+    ensures { result.now ≡ (atom_of form.now).bytes }
 {
-    fault_if(!is_word(text_of(name), wanted), 30, name)
+    match form.symbol() {
+        Some(text) => text,
+        None => &[],
+    }
 }
 
-/// The type in a pair.
-#[tactic(auto, unfolding(crate::specs::GrammarSorts::pair_type))]
-fn pair_type(signature: &Signature, pair: &Sexpr) -> TypeId
-    ensures { result ≡ pair_type signature.now pair.now }
+/// The bytes of the name of `s` or `(s ..)`.
+fn name_text(form: &Sexpr) -> &[u8]
+    ensures { result.now ≡ (name_of form.now).bytes }
 {
-    type_of(signature, sort_in(pair))
+    if form.symbol().is_some() {
+        text_of(form)
+    } else {
+        text_of(item_of(0, form))
+    }
 }
 
-/// The type of the nonterminal with the name.
-#[tactic(auto, unfolding(crate::specs::GrammarSorts::nonterminal_type))]
-fn nonterminal_type(signature: &Signature, pairs: &[Sexpr], name: &[u8]) -> TypeId
-    ensures { result ≡ nonterminal_type signature.now pairs.now name.now }
+/// The type of the nonterminal with this name.
+fn nonterminal_type(signature: &Signature, pairs: &[Pair], name: &[u8]) -> Option<TypeId>
+    ensures { result ≡ option_map (type_named signature.now) (sort_of_pair pairs.now name.now) }
 {
     for pair in pairs {
-        if is_word(text_of(name_in(pair)), name) {
-            return pair_type(signature, pair);
+        if pair.name.bytes.as_slice() == name {
+            return Some(type_named(signature, pair.sort.bytes.as_slice()));
         }
     }
-    TypeId(0)
+    None
 }
 
-/// Whether the k-th child of the constructor with the name is of the type.
-#[tactic(auto, unfolding(crate::specs::GrammarSorts::child_is, crate::specs::FunctionSorts::constructor_at))]
-fn child_is(signature: &Signature, name: &[u8], k: usize, owner: TypeId) -> bool
-    ensures { result ≡ child_is (constructor_at signature.now name.now) k owner }
+fn same_type(one: Option<TypeId>, other: Option<TypeId>) -> bool
+    ensures { result ≡ same_type one other }
 {
-    match signature.constructor_named(name) {
-        Some(id) => match at(signature.constructor(id).args.as_slice(), k) {
-            Some(child) => owner.0 == child.0,
-            None => false,
-        },
-        None => false,
+    match (one, other) {
+        (Some(one), Some(other)) => one.0 == other.0,
+        _ => false,
     }
 }
 
-#[tactic(auto, unfolding(crate::specs::GrammarSorts::argument_fault))]
+/// The fault of argument k of a production of this constructor.
 fn argument_fault(
     signature: &Signature,
-    pairs: &[Sexpr],
-    constructor: &[u8],
+    pairs: &[Pair],
+    con: &Constructor,
     k: usize,
     form: &Sexpr,
 ) -> Option<Fault>
-    ensures { result ≡ argument_fault signature.now pairs.now constructor.now k form.now }
+    ensures { result ≡ first (production_argument signature.now pairs.now (Some con.now) k form.now) }
 {
-    let owner = nonterminal_type(signature, pairs, text_of(form));
-    fault_if(!child_is(signature, constructor, k, owner), 30, form)
+    let found = nonterminal_type(signature, pairs, text_of(form));
+    if same_type(found, at(con.args.as_slice(), k).copied()) {
+        None
+    } else {
+        Some(refusal(form.place(), 30))
+    }
 }
 
-fn first_argument(
+/// The leftmost fault of the arguments of a production of this constructor.
+#[tactic(auto, using(crate::proofs::Firsts::firsts))]
+fn arguments_fault(
     signature: &Signature,
-    pairs: &[Sexpr],
-    constructor: &[u8],
+    pairs: &[Pair],
+    con: &Constructor,
     forms: &[Sexpr],
 ) -> Option<Fault>
-    ensures { result ≡ first_operand (argument_fault signature.now pairs.now constructor.now) 0 forms.now }
+    ensures { result ≡ first (found_from (production_argument signature.now pairs.now (Some con.now)) 0 forms.now) }
 {
     for (k, form) in forms.iter().enumerate() {
-        if let Some(fault) = argument_fault(signature, pairs, constructor, k, form) {
+        if let Some(fault) = argument_fault(signature, pairs, con, k, form) {
             return Some(fault);
         }
     }
     None
 }
 
-#[tactic(auto, unfolding(crate::specs::GrammarSorts::head_fault))]
-fn head_fault(signature: &Signature, owner: TypeId, form: &Sexpr) -> Option<Fault>
-    ensures { result ≡ head_fault signature.now owner form.now }
+/// The constructor of this name, if it makes terms of the type from so many children.
+fn maker<'s>(
+    signature: &'s Signature,
+    owner: TypeId,
+    count: usize,
+    name: &[u8],
+) -> Option<&'s Constructor>
+    ensures { option_copied result ≡ (if makes owner count (constructor_at signature.now name.now) then constructor_at signature.now name.now else None) }
 {
-    let count = others_of(form).len();
-    let name = text_of(name_in(form));
-    fault_if(!is_made_by(signature, owner, count, name), 30, form)
+    let con = signature.constructor(signature.constructor_named(name)?);
+    if con.owner.0 == owner.0 && con.args.len() == count {
+        Some(con)
+    } else {
+        None
+    }
 }
 
+/// The leftmost fault of a production of a nonterminal of this type.
+#[tactic(auto, using(crate::proofs::Firsts::firsts))]
 fn production_fault(
     signature: &Signature,
-    pairs: &[Sexpr],
+    pairs: &[Pair],
     owner: TypeId,
     form: &Sexpr,
 ) -> Option<Fault>
-    ensures { result ≡ production_fault signature.now pairs.now owner form.now }
+    ensures { result ≡ first (production_faults signature.now pairs.now owner form.now) }
 {
-    if let Some(fault) = head_fault(signature, owner, form) {
-        return Some(fault);
+    let arguments = others_of(form);
+    match maker(signature, owner, arguments.len(), name_text(form)) {
+        Some(con) => arguments_fault(signature, pairs, con, arguments),
+        None => Some(refusal(form.place(), 30)),
     }
-    first_argument(signature, pairs, text_of(name_in(form)), others_of(form))
 }
 
-fn first_production(
+/// The leftmost fault of productions of a nonterminal of this type.
+#[tactic(auto, using(crate::proofs::Firsts::firsts))]
+fn productions_fault(
     signature: &Signature,
-    pairs: &[Sexpr],
+    pairs: &[Pair],
     owner: TypeId,
     forms: &[Sexpr],
 ) -> Option<Fault>
-    ensures { result ≡ first_of (production_fault signature.now pairs.now owner) forms.now }
+    ensures { result ≡ first (flat_map (production_faults signature.now pairs.now owner) forms.now) }
 {
     for form in forms {
         if let Some(fault) = production_fault(signature, pairs, owner, form) {
@@ -136,266 +145,88 @@ fn first_production(
     None
 }
 
-/// The name of the type of the nonterminal that is declared at this number.
-fn declared_type(pairs: &[Sexpr], k: usize) -> &[u8]
-    ensures { result.now ≡ declared_type pairs.now k }
+/// The leftmost fault of the group of this nonterminal.
+#[tactic(auto, using(crate::proofs::Firsts::firsts))]
+fn group_fault(signature: &Signature, pairs: &[Pair], pair: &Pair, group: &Sexpr) -> Option<Fault>
+    ensures { result ≡ first (group_faults signature.now pairs.now (pair.now, group.now)) }
 {
-    match at(pairs, k) {
-        Some(pair) => sort_in(pair),
-        None => &[],
+    let sort = pair.sort.bytes.as_slice();
+    let named = item_of(1, group);
+    if text_of(named) != sort {
+        return Some(refusal(named.place(), 30));
     }
-}
-
-fn group_fault(signature: &Signature, pairs: &[Sexpr], k: usize, form: &Sexpr) -> Option<Fault>
-    ensures { result ≡ group_fault signature.now pairs.now k form.now }
-{
-    let declared = declared_type(pairs, k);
-    if let Some(fault) = start_fault(declared, item_of(form, 1)) {
-        return Some(fault);
-    }
-    let owner = type_of(signature, declared);
-    first_production(signature, pairs, owner, parts_of(item_of(form, 2)))
-}
-
-fn first_group(signature: &Signature, pairs: &[Sexpr], forms: &[Sexpr]) -> Option<Fault>
-    ensures { result ≡ first_group signature.now pairs.now 0 forms.now }
-{
-    for (k, form) in forms.iter().enumerate() {
-        if let Some(fault) = group_fault(signature, pairs, k, form) {
-            return Some(fault);
-        }
-    }
-    None
-}
-
-/// The leftmost node of a wrong sort of a `synth-fun`.
-fn wanted_fault(signature: &Signature, form: &Sexpr) -> Option<Fault>
-    ensures { result ≡ wanted_fault signature.now form.now }
-{
-    if parts_of(form).len() <= 4 {
-        return None;
-    }
-    let wanted = text_of(item_of(form, 3));
-    let nonterminals = item_of(form, 4);
-    if let Some(fault) = start_fault(wanted, item_of(item_of(nonterminals, 0), 1)) {
-        return Some(fault);
-    }
-    first_group(
+    productions_fault(
         signature,
-        parts_of(nonterminals),
-        parts_of(item_of(form, 5)),
+        pairs,
+        type_named(signature, sort),
+        items_at(2, group),
     )
 }
 
-/// The sort of the literal that the form is, if it is one.
-fn literal_sort(form: &Sexpr) -> Option<Sort>
-    ensures { result ≡ literal_sort form.now }
+/// The leftmost fault of groups, each of the nonterminal that is declared at its number.
+#[tactic(auto, using(crate::proofs::Firsts::firsts))]
+fn groups_fault(signature: &Signature, pairs: &[Pair], groups: &[Sexpr]) -> Option<Fault>
+    ensures { result ≡ first (flat_map (group_faults signature.now pairs.now) (zip pairs.now groups.now)) }
 {
-    if form.symbol().is_none() {
-        return Some(Sort::Int);
-    }
-    let text = text_of(form);
-    if is_constant(text) {
-        Some(sort_of_constant(text))
-    } else {
-        None
-    }
-}
-
-#[tactic(auto, unfolding(crate::specs::GrammarSorts::is_literal_of))]
-fn is_literal_of(sort: Sort, form: &Sexpr) -> bool
-    ensures { result ≡ is_literal_of sort form.now }
-{
-    matches!(
-        (sort, literal_sort(form)),
-        (Sort::Int, Some(Sort::Int)) | (Sort::Bool, Some(Sort::Bool))
-    )
-}
-
-/// The numeral of an argument, also in `(- n)`.
-fn number_in(form: &Sexpr) -> &Sexpr
-    ensures { result.now ≡ number_in form.now }
-{
-    if form.numeral().is_some() {
-        form
-    } else {
-        item_of(form, 1)
-    }
-}
-
-/// The greatest size of the number in an argument.
-fn bound_in(form: &Sexpr) -> u128
-    ensures { result ≡ bound_in form.now }
-{
-    if form.numeral().is_some() {
-        MOST
-    } else {
-        MOST + 1
-    }
-}
-
-/// Whether the numeral of an argument is out of range.
-fn is_too_large(form: &Sexpr) -> bool
-    ensures { result ≡ option_map_or (is_above (bound_in form.now)) (numeral_of (number_in form.now)) false }
-{
-    match number_in(form).numeral() {
-        Some(digits) => is_above(bound_in(form), digits),
-        None => false,
-    }
-}
-
-#[tactic(auto, unfolding(crate::specs::GrammarSorts::range_fault))]
-fn range_fault(form: &Sexpr) -> Option<Fault>
-    ensures { result ≡ range_fault form.now }
-{
-    if form.symbol().is_some() {
-        let text = text_of(form);
-        return fault_if(
-            is_negative(text) && is_above(MOST + 1, after_sign(text)),
-            31,
-            form,
-        );
-    }
-    fault_if(is_too_large(form), 31, number_in(form))
-}
-
-#[tactic(auto, unfolding(crate::specs::GrammarSorts::is_wanted_name))]
-fn is_wanted_name(wanted: &[u8], form: &Sexpr) -> bool
-    ensures { result ≡ is_wanted_name wanted.now form.now }
-{
-    form.symbol().is_some() && is_word(text_of(form), wanted)
-}
-
-fn value_fault(wanted: &[u8], kind: Variable, form: &Sexpr) -> Option<Fault>
-    ensures { result ≡ value_fault wanted.now kind form.now }
-{
-    match kind {
-        Variable::Term(_) => fault_if(!is_wanted_name(wanted, form), 30, form),
-        Variable::Plain(sort) => {
-            fault_if(!is_literal_of(sort, form), 30, form).or(range_fault(form))
+    for (k, pair) in pairs.iter().enumerate() {
+        if k >= groups.len() {
+            return None;
         }
-    }
-}
-
-#[tactic(auto, unfolding(crate::specs::GrammarSorts::value_at))]
-fn value_at(wanted: &[u8], kinds: &[Variable], k: usize, form: &Sexpr) -> Option<Fault>
-    ensures { result ≡ value_at wanted.now kinds.now k form.now }
-{
-    match at(kinds, k) {
-        Some(kind) => value_fault(wanted, *kind, form),
-        None => None,
-    }
-}
-
-fn first_value(wanted: &[u8], kinds: &[Variable], forms: &[Sexpr]) -> Option<Fault>
-    ensures { result ≡ first_operand (value_at wanted.now kinds.now) 0 forms.now }
-{
-    for (k, form) in forms.iter().enumerate() {
-        if let Some(fault) = value_at(wanted, kinds, k, form) {
-            return Some(fault);
+        match group_fault(signature, pairs, pair, &groups[k]) {
+            Some(fault) => return Some(fault),
+            None => {}
         }
     }
     None
 }
 
-/// Whether the terms among the kinds are of the type.
-fn are_of_type(owner: TypeId, kinds: &[Variable]) -> bool
-    ensures { result ≡ are_of_type owner kinds.now }
+/// The fault of a start that isn't of the wanted type.
+fn start_fault(owner: &[u8], pairs: &[Pair]) -> Option<Fault>
+    ensures { result ≡ first (start_faults owner.now pairs.now) }
 {
-    for kind in kinds {
-        if let Variable::Term(found) = *kind {
-            if found.0 != owner.0 {
-                return false;
+    match pairs {
+        [] => None,
+        [start, ..] => {
+            if start.sort.bytes.as_slice() == owner {
+                None
+            } else {
+                Some(refusal(start.sort.place, 30))
             }
         }
     }
-    true
 }
 
-/// The leftmost fault of a call of an example.
-#[tactic(auto, unfolding(crate::specs::GrammarSorts::call_fault))]
-fn call_fault(
+/// The nonterminals of a `synth-fun`, each with its type; none where it has no grammar.
+fn nonterminals_of(alloc: Global, form: &Sexpr) -> Result<Pairs, AllocError>
+    ensures { IfOk result (λ pairs. pairs ≡ nonterminals_of form.now) }
+{
+    let mut pairs = Pairs::new(alloc);
+    for item in items_at(4, form) {
+        pairs.push(pair_of(alloc, item)?)?;
+    }
+    Ok(pairs)
+}
+
+/// The leftmost fault of a `synth-fun` whose nonterminals are these.
+#[tactic(auto, using(crate::proofs::Firsts::firsts))]
+fn grammar_fault(signature: &Signature, nonterminals: &[Pair], form: &Sexpr) -> Option<Fault>
+    requires { nonterminals.now ≡ nonterminals_of form.now }
+    ensures { result ≡ first (wanted_faults signature.now form.now) }
+{
+    if let Some(fault) = start_fault(text_of(item_of(3, form)), nonterminals) {
+        return Some(fault);
+    }
+    groups_fault(signature, nonterminals, items_at(5, form))
+}
+
+/// The leftmost node of a wrong sort (reason 30) of a `synth-fun`.
+pub(crate) fn wanted_fault(
     alloc: Global,
     signature: &Signature,
-    owner: TypeId,
-    wanted: &[u8],
     form: &Sexpr,
 ) -> Result<Option<Fault>, AllocError>
-    ensures { IfOk result (λ fault. fault ≡ call_fault signature.now owner wanted.now form.now) }
+    ensures { IfOk result (λ fault. fault ≡ first (wanted_faults signature.now form.now)) }
 {
-    let kinds = called_kinds(alloc, signature, &[], name_at_front(parts_of(form)))?;
-    let arguments = others_of(form);
-    let fits = are_of_type(owner, kinds.as_slice()) && arguments.len() == kinds.len();
-    if let Some(fault) = fault_if(!fits, 30, form) {
-        return Ok(Some(fault));
-    }
-    Ok(first_value(wanted, kinds.as_slice(), arguments))
-}
-
-/// The leftmost fault of an example, which is followed to this depth of lists.
-#[cycle(examples)]
-#[tactic(auto, unfolding(crate::specs::GrammarSorts::example_fault))]
-fn example_fault(
-    alloc: Global,
-    depth: u8,
-    signature: &Signature,
-    owner: TypeId,
-    wanted: &[u8],
-    form: &Sexpr,
-) -> Result<Option<Fault>, AllocError>
-    ensures { IfOk result (λ fault. fault ≡ example_fault depth signature.now owner wanted.now form.now) }
-{
-    if depth > 0 && begins(b"and", form) {
-        let forms = others_of(form);
-        Ok(first_example(alloc, depth - 1, signature, owner, wanted, forms)?)
-    } else {
-        Ok(call_fault(alloc, signature, owner, wanted, form)?)
-    }
-}
-
-#[cycle(examples)]
-#[tactic(auto, unfolding(crate::specs::GrammarSorts::example_fault))]
-fn first_example(
-    alloc: Global,
-    depth: u8,
-    signature: &Signature,
-    owner: TypeId,
-    wanted: &[u8],
-    forms: &[Sexpr],
-) -> Result<Option<Fault>, AllocError>
-    ensures { IfOk result (λ fault. fault ≡ first_of (example_fault depth signature.now owner wanted.now) forms.now) }
-{
-    for form in forms {
-        let found = example_fault(alloc, depth, signature, owner, wanted, form)?;
-        if let Some(fault) = found {
-            return Ok(Some(fault));
-        }
-    }
-    Ok(None)
-}
-
-/// The leftmost node of a command that is of a wrong sort (reason 30) or a number out of range (31), with the least
-/// reason there.
-///
-/// The command has its shape, passes no limit and has no wrong name. The signature is that of the commands before;
-/// `owner` and `wanted` are the type and the name of the wanted function, which only a constraint asks for.
-pub fn wrong_sort(
-    alloc: Global,
-    signature: &Signature,
-    owner: TypeId,
-    wanted: &[u8],
-    command: Head,
-    form: &Sexpr,
-) -> Result<Option<Fault>, AllocError>
-    ensures { IfOk result (λ fault. fault ≡ wrong_sort signature.now owner wanted.now command form.now) }
-{
-    match command {
-        Head::SetInfo | Head::DeclareTermTypes | Head::CheckSynth => Ok(None),
-        Head::DefineFunsRec => Ok(functions_fault(alloc, signature, form)?),
-        Head::SynthFun => Ok(wanted_fault(signature, form)),
-        Head::Constraint => {
-            let example = item_of(form, 1);
-            Ok(example_fault(alloc, DEEPEST, signature, owner, wanted, example)?)
-        }
-    }
+    let nonterminals = nonterminals_of(alloc, form)?;
+    Ok(grammar_fault(signature, nonterminals.as_slice(), form))
 }

@@ -1,31 +1,47 @@
-//! Problem files: their forms as commands, which are judged one after the other.
+//! Problem files: their commands are judged one after the other, and make a problem.
 #![tactic(auto)]
 
-mod bodies;
+mod atom_sorts;
+mod body_names;
+mod branch;
+mod branching;
+mod cases;
+mod command_faults;
 mod commands;
-mod dues;
-mod fault;
-mod fits;
+mod constraints;
+mod elaborator;
+mod error;
+mod examples;
+mod expression_names;
+mod flow;
+mod function_limits;
 mod function_names;
-mod function_sorts;
+mod functions;
 mod grammar_names;
 mod grammar_sorts;
-mod heads;
+mod grammars;
+mod laws;
 mod limits;
-mod names;
-mod roles;
-mod shapes;
+mod making;
+mod open;
+mod opening;
+mod passes;
+mod relations;
+mod rules;
+mod sort_passes;
 mod sorts;
-#[cfg(test)]
-mod tests;
+mod stated;
+mod taking;
+mod type_names;
+mod types;
 mod variables;
 
-pub use bodies::limit_passed;
-pub use commands::{Head, Order};
-pub use fault::Fault;
-pub use grammar_names::wrong_name;
-pub use grammar_sorts::wrong_sort;
-pub use limits::{Counted, Counts};
-pub use roles::{Due, Role};
-pub use shapes::{command_head, misfit};
-pub use variables::Variable;
+pub use atom_sorts::atom_fault;
+pub use branch::{OpenBranch, OpenBranches, OpenCase, OpenCases};
+pub use command_faults::{Reading, limit_fault, name_fault, reading_of, shape_fault};
+pub use elaborator::Elaborator;
+pub use error::ElabError;
+pub use laws::one_judgement;
+pub use open::{OpenExp, OpenExps, OpenNode};
+pub use opening::{opened, opened_all};
+pub use variables::Variables;

@@ -1,39 +1,18 @@
-//! The limits of a problem file: how many there may be of each kind, and how long a name may be.
-ghost use Rattle.std.specs.Prelude.{◌≡◌, ◌<◌, ◌≤◌, ◌+◌, length, slice_get, unwrap_or, IfNone, IfOk};
+//! The limits of declared types, constructors, nonterminals and productions, and of names.
+ghost use Rattle.std.specs.Prelude.{◌≡◌, ◌<◌, ◌≤◌, ◌+◌, ◌++◌, map, length, IfNone, IfOk};
+ghost use Rattle.std.specs.List.{flat_map};
 ghost use Rattle.std.specs.Result.{result_err};
-ghost use Rattle.elab_core.specs.Shapes.{parts_of};
-ghost use Rattle.elab_core.specs.Limits.{constructor_fault, fault_of, first_fault, first_in_groups, first_relation, first_too_long, limit_fault, members_of, most_of, name_in, pair_fault, parameters_of, past, relation_fault, too_long, too_wide, type_fault};
+ghost use Rattle.sexpr_core.specs.Access.{place_of};
+ghost use Rattle.syntax_core.specs.Shapes.{parts_of};
+ghost use Rattle.syntax_core.specs.Syntax.{atom_of, item_of, items_at, others_of, pair_of};
+ghost use Rattle.elab_core.specs.Faults.{first, found_from, past};
+ghost use Rattle.elab_core.specs.Limits.{constructor_limits, long_name, pair_limits, production_limits, type_limits, types_limits, wanted_limits};
 
-use crate::fault::Fault;
-use crate::shapes::parts_of;
-use items::at;
-use sexpr_core::Sexpr;
+use sexpr_core::{Atom, Sexpr};
+use syntax_core::{Fault, item_of, items_at, others_of, parts_of};
 
-/// What is counted in a file or in a part of one.
-#[derive(Clone, Copy, Debug, PartialEq, Eq)]
-pub enum Counted {
-    Type,
-    Constructor,
-    /// a parameter of a relation
-    Parameter,
-    /// an existential of a rule, counted after the parameters of its relation
-    Existential,
-    Nonterminal,
-    Production,
-}
-
-/// How many of each kind stand in the file before a command.
-#[derive(Clone, Copy, Debug, PartialEq, Eq)]
-pub struct Counts {
-    pub types: u16,
-    pub constructors: u16,
-    pub relations: u16,
-    pub rules: u16,
-    pub constraints: u16,
-}
-
-fn limit_fault(limit: u8, place: u32) -> Fault
-    ensures { result ≡ limit_fault limit place }
+fn passed(limit: u8, place: u32) -> Fault
+    ensures { result ≡ record { place = place; reason = 50; limit = limit } }
 {
     Fault {
         place,
@@ -42,94 +21,118 @@ fn limit_fault(limit: u8, place: u32) -> Fault
     }
 }
 
-/// The fault of a node of this number, where at most so many may stand.
+/// The fault of a node of this number, from 0, where at most so many may stand.
 pub(crate) fn past(most: usize, limit: u8, number: usize, place: u32) -> Option<Fault>
-    ensures value { result ≡ past most limit number place }
+    ensures value { result ≡ first (past most limit number place) }
     ensures room { IfNone result (number < most) }
 {
     if number < most {
         None
     } else {
-        Some(limit_fault(limit, place))
+        Some(passed(limit, place))
     }
 }
 
-/// The symbol that names what the form declares: the form itself, or the first item of a list.
-pub(crate) fn name_in(form: &Sexpr) -> &Sexpr
-    ensures { result.now ≡ name_in form.now }
+/// The fault of a declared name that is longer than 1,024 bytes.
+pub(crate) fn long_name(name: &Atom) -> Option<Fault>
+    ensures { result ≡ first (long_name name.now) }
 {
-    match parts_of(form) {
-        [first, ..] => first,
-        [] => form,
+    if name.bytes.len() <= 1024 {
+        None
+    } else {
+        Some(passed(4, name.place))
     }
 }
 
-pub(crate) fn too_long(name: &Sexpr) -> Option<Fault>
-    ensures { result ≡ too_long name.now }
+/// The same of a symbol.
+fn long_symbol(form: &Sexpr) -> Option<Fault>
+    ensures { result ≡ first (long_name (atom_of form.now)) }
 {
-    match name.symbol() {
-        Some(bytes) if bytes.len() > 1024 => Some(limit_fault(4, name.place())),
+    match form.symbol() {
+        Some(name) if name.len() > 1024 => Some(passed(4, form.place())),
         _ => None,
     }
 }
 
-fn too_wide(form: &Sexpr) -> Option<Fault>
-    ensures { result ≡ too_wide form.now }
-{
-    past(18, 7, parts_of(form).len(), form.place())
-}
-
-fn type_fault(number: usize, form: &Sexpr) -> Option<Fault>
-    ensures value { result ≡ type_fault number form.now }
+/// What limit a type passes, or its name.
+#[tactic(auto, using(crate::proofs::Firsts::firsts))]
+fn type_limit(number: usize, pair: &Sexpr) -> Option<Fault>
+    ensures value { result ≡ first (type_limits number (pair_of pair.now).name) }
     ensures room { IfNone result (number < 256) }
 {
-    let name = name_in(form);
-    too_long(name).or(past(256, 5, number, name.place()))
+    let name = item_of(0, pair);
+    if let Some(fault) = long_symbol(name) {
+        return Some(fault);
+    }
+    past(256, 5, number, name.place())
 }
 
-fn constructor_fault(number: usize, form: &Sexpr) -> Option<Fault>
-    ensures value { result ≡ constructor_fault number form.now }
+/// The first of the types that passes a limit, where the first has this number.
+#[tactic(auto, using(crate::proofs::Firsts::firsts))]
+fn each_type_limit(number: usize, pairs: &[Sexpr]) -> Option<Fault>
+    ensures { result ≡ first (found_from type_limits number (map (λ pair. (pair_of pair).name) pairs.now)) }
+{
+    let mut next = number;
+    for pair in pairs {
+        if let Some(fault) = type_limit(next, pair) {
+            return Some(fault);
+        }
+        next += 1;
+    }
+    None
+}
+
+/// What limit a constructor passes that is a list.
+#[tactic(auto, using(crate::proofs::Firsts::firsts))]
+fn list_limit(number: usize, form: &Sexpr) -> Option<Fault>
+    ensures value { result ≡ first (past 4096 6 number (place_of form.now)
+        ++ past 17 7 (length (others_of form.now)) (place_of form.now) ++ long_name (atom_of (item_of 0 form.now))) }
     ensures room { IfNone result (number < 4096) }
 {
-    let past_last = past(4096, 6, number, form.place());
+    let place = form.place();
+    if let Some(fault) = past(4096, 6, number, place) {
+        return Some(fault);
+    }
+    if let Some(fault) = past(17, 7, others_of(form).len(), place) {
+        return Some(fault);
+    }
+    long_symbol(item_of(0, form))
+}
+
+/// What limit a constructor passes that is a symbol.
+#[tactic(auto, using(crate::proofs::Firsts::firsts))]
+fn symbol_limit(number: usize, form: &Sexpr) -> Option<Fault>
+    ensures value { result ≡ first (long_name (atom_of form.now) ++ past 4096 6 number (place_of form.now)) }
+    ensures room { IfNone result (number < 4096) }
+{
+    if let Some(fault) = long_symbol(form) {
+        return Some(fault);
+    }
+    past(4096, 6, number, form.place())
+}
+
+/// What limit a constructor passes, or its name.
+fn constructor_limit(number: usize, form: &Sexpr) -> Option<Fault>
+    ensures value { result ≡ first (constructor_limits number form.now) }
+    ensures room { IfNone result (number < 4096) }
+{
     if form.symbol().is_some() {
-        too_long(form).or(past_last)
+        symbol_limit(number, form)
     } else {
-        past_last.or(too_wide(form)).or(too_long(name_in(form)))
+        list_limit(number, form)
     }
 }
 
-/// The fault of a pair of a name and a sort or a type.
-fn pair_fault(most: usize, limit: u8, number: usize, form: &Sexpr) -> Option<Fault>
-    ensures value { result ≡ pair_fault most limit number form.now }
-    ensures room { IfNone result (number < most) }
-{
-    past(most, limit, number, form.place()).or(too_long(name_in(form)))
-}
-
-/// What limit the form of this number passes, or its name.
-fn fault_of(what: Counted, number: usize, form: &Sexpr) -> Option<Fault>
-    ensures value { result ≡ fault_of what number form.now }
-    ensures room { IfNone result (number < most_of what) }
-{
-    match what {
-        Counted::Type => type_fault(number, form),
-        Counted::Constructor => constructor_fault(number, form),
-        Counted::Parameter => pair_fault(32, 9, number, form),
-        Counted::Existential => pair_fault(64, 10, number, form),
-        Counted::Nonterminal => pair_fault(256, 12, number, form),
-        Counted::Production => past(4096, 13, number, form.place()),
-    }
-}
-
-/// The first of the forms that passes a limit, where the first has this number; else the number after the last.
-pub(crate) fn pass_all(what: Counted, number: usize, forms: &[Sexpr]) -> Result<usize, Fault>
-    ensures fault { result_err result ≡ first_fault what number forms.now }
-    ensures next { IfOk result (λ next. (next ≡ number + length forms.now) × (number ≤ most_of what → next ≤ most_of what)) }
+/// The number after the last constructor of a group, where the first has this number; else the first that passes a
+/// limit.
+#[tactic(auto, using(crate::proofs::Firsts::firsts))]
+fn group_limit(number: usize, forms: &[Sexpr]) -> Result<usize, Fault>
+    ensures fault { result_err result ≡ first (found_from constructor_limits number forms.now) }
+    ensures next { IfOk result (λ next. next ≡ number + length forms.now) }
 {
     let mut next = number;
     for form in forms {
-        if let Some(fault) = fault_of(what, next, form) {
+        if let Some(fault) = constructor_limit(next, form) {
             return Err(fault);
         }
         next += 1;
@@ -137,79 +140,99 @@ pub(crate) fn pass_all(what: Counted, number: usize, forms: &[Sexpr]) -> Result<
     Ok(next)
 }
 
-/// The members of groups are numbered from group to group, of which the first has this number.
-pub(crate) fn pass_groups(what: Counted, number: usize, groups: &[Sexpr]) -> Result<usize, Fault>
-    requires { number ≤ most_of what }
-    ensures fault { result_err result ≡ first_in_groups what number groups.now }
-    ensures next { IfOk result (λ next. next ≤ most_of what) }
+/// The first constructor of the groups that passes a limit, where the first has this number.
+#[tactic(auto, using(crate::proofs::Numbering::numbered))]
+fn each_constructor_limit(number: usize, groups: &[Sexpr]) -> Option<Fault>
+    ensures { result ≡ first (found_from constructor_limits number (flat_map parts_of groups.now)) }
 {
     let mut next = number;
     for group in groups {
-        next = pass_all(what, next, members_of(what, group))?;
-    }
-    Ok(next)
-}
-
-/// The members of a group: all its items, or those of its third.
-fn members_of(what: Counted, group: &Sexpr) -> &[Sexpr]
-    ensures { result.now ≡ members_of what group.now }
-{
-    match what {
-        Counted::Production => parts_of(item_of(group, 2)),
-        _ => parts_of(group),
-    }
-}
-
-/// The item in this place of the form, or the form itself where there is none.
-pub(crate) fn item_of(form: &Sexpr, place: usize) -> &Sexpr
-    ensures { result.now ≡ unwrap_or (slice_get (parts_of form.now) place) form.now }
-{
-    match at(parts_of(form), place) {
-        Some(item) => item,
-        None => form,
-    }
-}
-
-/// The first of the names that is too long.
-pub(crate) fn first_too_long(names: &[Sexpr]) -> Option<Fault>
-    ensures { result ≡ first_too_long names.now }
-{
-    for name in names {
-        if let Some(fault) = too_long(name) {
-            return Some(fault);
+        match group_limit(next, parts_of(group)) {
+            Ok(after) => next = after,
+            Err(fault) => return Some(fault),
         }
     }
     None
 }
 
-/// The parameters of `(s (pair ..) Bool)`.
-pub(crate) fn parameters_of(form: &Sexpr) -> &[Sexpr]
-    ensures { result.now ≡ parameters_of form.now }
+/// The leftmost node of a `declare-term-types` that passes a limit, where so many types and constructors come before it.
+#[tactic(auto, using(crate::proofs::Firsts::firsts))]
+pub(crate) fn types_limit(types: usize, constructors: usize, form: &Sexpr) -> Option<Fault>
+    ensures { result ≡ first (types_limits types constructors form.now) }
 {
-    parts_of(item_of(form, 1))
+    if let Some(fault) = each_type_limit(types, items_at(1, form)) {
+        return Some(fault);
+    }
+    each_constructor_limit(constructors, items_at(2, form))
 }
 
-fn pass_relation(number: usize, form: &Sexpr) -> Result<usize, Fault>
-    ensures fault { result_err result ≡ relation_fault number form.now }
-    ensures next { IfOk result (λ next. (next ≡ number + 1) × (next ≤ 256)) }
+#[tactic(auto, using(crate::proofs::Firsts::firsts))]
+fn nonterminal_limit(number: usize, pair: &Sexpr) -> Option<Fault>
+    ensures value { result ≡ first (pair_limits 256 12 number (pair_of pair.now)) }
+    ensures room { IfNone result (number < 256) }
 {
-    if let Some(fault) = past(256, 8, number, form.place()) {
-        return Err(fault);
+    if let Some(fault) = past(256, 12, number, pair.place()) {
+        return Some(fault);
     }
-    if let Some(fault) = too_long(name_in(form)) {
-        return Err(fault);
-    }
-    pass_all(Counted::Parameter, 0, parameters_of(form))?;
-    Ok(number + 1)
+    long_symbol(item_of(0, pair))
 }
 
-/// The first of the declarations of relations that passes a limit, where the first has this number.
-pub(crate) fn pass_relations(number: usize, forms: &[Sexpr]) -> Result<usize, Fault>
-    ensures fault { result_err result ≡ first_relation number forms.now }
+/// The first of the nonterminals that passes a limit.
+#[tactic(auto, using(crate::proofs::Firsts::firsts))]
+fn each_nonterminal_limit(pairs: &[Sexpr]) -> Option<Fault>
+    ensures { result ≡ first (found_from (pair_limits 256 12) 0 (map pair_of pairs.now)) }
+{
+    let mut next = 0;
+    for pair in pairs {
+        if let Some(fault) = nonterminal_limit(next, pair) {
+            return Some(fault);
+        }
+        next += 1;
+    }
+    None
+}
+
+/// The number after the last of the productions, where the first has this number; else the first past the limit.
+#[tactic(auto, using(crate::proofs::Firsts::firsts))]
+fn productions_limit(number: usize, forms: &[Sexpr]) -> Result<usize, Fault>
+    ensures fault { result_err result ≡ first (found_from production_limits number forms.now) }
+    ensures next { IfOk result (λ next. next ≡ number + length forms.now) }
 {
     let mut next = number;
     for form in forms {
-        next = pass_relation(next, form)?;
+        if let Some(fault) = past(4096, 13, next, form.place()) {
+            return Err(fault);
+        }
+        next += 1;
     }
     Ok(next)
+}
+
+/// The first production of the groups past the limit.
+#[tactic(auto, using(crate::proofs::Numbering::numbered))]
+fn each_production_limit(groups: &[Sexpr]) -> Option<Fault>
+    ensures { result ≡ first (found_from production_limits 0 (flat_map (items_at 2) groups.now)) }
+{
+    let mut next = 0;
+    for group in groups {
+        match productions_limit(next, items_at(2, group)) {
+            Ok(after) => next = after,
+            Err(fault) => return Some(fault),
+        }
+    }
+    None
+}
+
+/// The leftmost node of a `synth-fun` that passes a limit.
+#[tactic(auto, using(crate::proofs::Firsts::firsts))]
+pub(crate) fn wanted_limit(form: &Sexpr) -> Option<Fault>
+    ensures { result ≡ first (wanted_limits form.now) }
+{
+    if let Some(fault) = long_symbol(item_of(1, form)) {
+        return Some(fault);
+    }
+    if let Some(fault) = each_nonterminal_limit(items_at(4, form)) {
+        return Some(fault);
+    }
+    each_production_limit(items_at(5, form))
 }

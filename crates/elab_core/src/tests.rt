@@ -1,4 +1,0 @@
-mod limits;
-mod names;
-mod shapes;
-mod sorts;
