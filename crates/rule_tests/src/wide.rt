@@ -4,9 +4,9 @@ ghost use Rattle.rule_core.specs.Rulebooks.{HasSmallParts, IsRuleOf, IsSmall};
 ghost use Rattle.rule_tests.specs.Wide.{sums, splits, wide};
 
 use crate::language::{TERM, param, two_constructors};
-use crate::rules::{PLUS, one, slot, variables};
+use crate::rules::{PLUS, one, slot};
 use expr_core::{Expr, Kids, Op};
-use rule_core::{AddError, Atom, Atoms, Call, FlowFault, Names, Rule, Rulebook, Vars, Who};
+use rule_core::{AddError, Atom, Atoms, Call, FlowFault, Names, Rule, Rulebook, Var, Vars, Who};
 use sig_core::{Kind, Param, Params, RelId, Relation, SigError, Signature, Sort, bytes_of};
 use std::alloc::{AllocError, Global};
 
@@ -146,12 +146,36 @@ fn fill_sum(alloc: Global, number: u8, left: u8, right: u8) -> Result<Atom, Allo
     Ok(Atom::Fill(number, Expr::Apply(Op::Add, kids)))
 }
 
+fn variable(alloc: Global, name: &[u8]) -> Result<Var, AllocError> {
+    Ok(Var {
+        name: bytes_of(alloc, name)?,
+        sort: Sort::Int,
+    })
+}
+
+fn one_variable(alloc: Global) -> Result<Vars, AllocError>
+    ensures { IfOk result (λ vars. length vars ≤ 61) }
+{
+    let mut vars = Vars::new(alloc);
+    vars.push(variable(alloc, b"v0")?)?;
+    Ok(vars)
+}
+
+fn two_variables(alloc: Global) -> Result<Vars, AllocError>
+    ensures { IfOk result (λ vars. length vars ≤ 61) }
+{
+    let mut vars = Vars::new(alloc);
+    vars.push(variable(alloc, b"v0")?)?;
+    vars.push(variable(alloc, b"v1")?)?;
+    Ok(vars)
+}
+
 /// Both children at the inputs, and the sum of their outputs.
 fn sum_rule(alloc: Global) -> Result<(), AddError> {
     let left = call(alloc, SUMS, 0, &[0, 1], &[3])?;
     let right = call(alloc, SUMS, 1, &[0, 1], &[4])?;
     let atoms = three(alloc, left, right, fill_sum(alloc, 2, 3, 4)?)?;
-    added(alloc, rule(alloc, SUMS, variables(alloc, 2)?, atoms))
+    added(alloc, rule(alloc, SUMS, two_variables(alloc)?, atoms))
 }
 
 #[test]
@@ -163,7 +187,7 @@ fn a_sum_of_both_children_is_accepted(rt: HostRuntime) {
 fn asks_at(alloc: Global, input: u8) -> Result<(), AddError> {
     let child = call(alloc, SPLITS, 0, &[input], &[3, 3])?;
     let atoms = three(alloc, child, one(0), one(2))?;
-    added(alloc, rule(alloc, SPLITS, variables(alloc, 1)?, atoms))
+    added(alloc, rule(alloc, SPLITS, one_variable(alloc)?, atoms))
 }
 
 #[test]
