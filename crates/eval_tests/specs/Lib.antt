@@ -1,3 +1,0 @@
-pub mod Derivable
-pub mod Relations
-pub mod Rules
