@@ -1,0 +1,79 @@
+-- What an elaborator stands for, and what it answers.
+use Rattle.std.specs.Prelude.{◌≡◌, ℕ, Bool, true, false, Option, Some, None, option_map, Result, Ok, Err}
+use Rattle.std.specs.Option.{option_map_or}
+use Rattle.sexpr_core.specs.declared.form.Sexpr.{Sexpr}
+use Rattle.problem_core.specs.Problems.{Parts}
+use Rattle.syntax_core.specs.declared.fault.Fault.{Fault}
+use Rattle.elab_core.specs.declared.elaborator.Standing.{Standing}
+use Rattle.elab_core.specs.declared.elaborator.Standing.TheVariants as standing
+use Rattle.elab_core.specs.declared.error.ElabError.{ElabError}
+use Rattle.elab_core.specs.declared.error.ElabError.TheVariants as error
+use Rattle.syntax_core.specs.declared.commands.Head.{Head}
+use Rattle.elab_core.specs.Faults.{first}
+use Rattle.elab_core.specs.Judging.{Outcome, stands, refused, closed, command_fault, faults_in, judged, may_come, step}
+use Rattle.elab_core.specs.Making.{added}
+use Rattle.elab_core.specs.States.{State}
+use Rattle.elab_core.specs.Soundness.{IsSoundState}
+
+-- the outcome of the commands so far; none once memory was wanted
+abbrev pub outcome_in : Standing → Option Outcome
+outcome_in (standing.Stated s) = Some (stands s)
+outcome_in (standing.Refused fault) = Some (refused fault)
+outcome_in standing.Spent = None
+
+-- what has been stated makes a problem
+abbrev pub IsSoundStanding : Standing → Type 0
+IsSoundStanding (standing.Stated s) = IsSoundState s
+IsSoundStanding (standing.Refused fault) = Unit {0}
+IsSoundStanding standing.Spent = Unit {0}
+
+abbrev pub next : Option Outcome → Sexpr → Option Outcome
+next outcome form = option_map (λ o. step o form) outcome
+
+-- no command was refused
+abbrev pub has_stood : Outcome → Bool
+has_stood (stands s) = true
+has_stood (refused fault) = false
+
+abbrev pub is_standing : Option Outcome → Bool
+is_standing None = false
+is_standing (Some outcome) = has_stood outcome
+
+-- what stands after a form that isn't taken: it or one before it is refused, or memory was wanted now or before
+abbrev pub IsNotTaken : Option Outcome → Sexpr → Option Outcome → ElabError → Type 0
+IsNotTaken old form new (error.Fault fault) = (new ≡ next old form) × (new ≡ Some (refused fault))
+IsNotTaken old form new error.Memory = new ≡ None
+
+abbrev pub standing_after : ElabError → Standing
+standing_after (error.Fault fault) = standing.Refused fault
+standing_after error.Memory = standing.Spent
+
+-- after this outcome the form is refused by this, or memory was wanted
+abbrev pub IsRefusedAfter : Option Outcome → Sexpr → ElabError → Type 0
+IsRefusedAfter old form (error.Fault fault) = next old form ≡ Some (refused fault)
+IsRefusedAfter old form error.Memory = Unit {0}
+
+-- the outcome is this refusal, or memory was wanted
+abbrev pub IsRefusal : Outcome → ElabError → Type 0
+IsRefusal outcome (error.Fault fault) = outcome ≡ refused fault
+IsRefusal outcome error.Memory = Unit {0}
+
+abbrev pub answered : Result Parts Fault → Result Parts ElabError
+answered (Ok problem) = Ok problem
+answered (Err fault) = Err (error.Fault fault)
+
+-- what the commands have made in the end: a problem, the refusal that is due, or want of memory
+abbrev pub made : ℕ → Option Outcome → Result Parts ElabError
+made end None = Err error.Memory
+made end (Some outcome) = answered (closed end outcome)
+
+-- the form is judged as this command, which may come
+pub record IsJudgedAs (s : State) (h : Head) (form : Sexpr) : Type 0 where
+  pub come : may_come s h ≡ true
+  pub is : judged s form ≡ option_map_or Err (command_fault s h form) (Ok h)
+
+-- a command that has no fault was added, and what has been stated still fits
+pub record IsTaken (old : State) (h : Head) (form : Sexpr) (new : State) : Type 0 where
+  pub fine : first (faults_in old h form) ≡ None
+  pub is_added : new ≡ added old h form
+  pub sound : IsSoundState new

@@ -1,0 +1,143 @@
+ghost use Rattle.std.specs.Prelude.{◌≡◌, IsTrue, Some, OnOk, IfErr};
+ghost use Rattle.elab_core.specs.Elaborating.{IsNotTaken, IsRefusedAfter, IsSoundStanding, answered, is_standing, made, next, outcome_in, standing_after};
+ghost use Rattle.elab_core.specs.Judging.{closed, stands};
+ghost use Rattle.elab_core.specs.Soundness.{IsSoundState};
+ghost use Rattle.elab_core.specs.States.{start};
+
+use crate::error::ElabError;
+use crate::passes::Passes;
+use crate::stated::{StatedParts, WantedFunction};
+use problem_core::Problem;
+use sexpr_core::Sexpr;
+use std::alloc::Global;
+use std::marker::Model;
+use syntax_core::{Fault, refusal};
+
+/// How far the commands have come.
+#[derive(Debug, Drop)]
+enum Standing {
+    Stated(StatedParts),
+    /// the first command that was refused
+    Refused(Fault),
+    /// memory was wanted
+    Spent,
+}
+
+/// Judges the commands of a problem file one after the other, and makes their problem.
+#[derive(Debug, Drop)]
+pub struct Elaborator {
+    alloc: Global,
+    standing: Standing,
+}
+
+impl Model for Elaborator {
+    ghost use Rattle.std.specs.Prelude.{Option};
+    ghost use Rattle.std.specs.Coded.{codes};
+    ghost use Rattle.expr_core.specs.contracts.expr.Expr as expr;
+    ghost use Rattle.elab_core.specs.Elaborating.{IsSoundStanding, outcome_in};
+    ghost use Rattle.elab_core.specs.Judging.{Outcome};
+
+    ghost Value = { Option Outcome };
+
+    ghost coded = { Prim.hlevel (codes, expr.the_row.coded) };
+
+    ghost view = { λ e. outcome_in e.standing };
+
+    ghost invariant = { λ e. IsSoundStanding e.standing };
+}
+
+impl Elaborator {
+    /// Before the first command.
+    pub fn new(alloc: Global) -> Elaborator
+        ensures { result ≡ Some (stands start) }
+    {
+        Elaborator {
+            alloc,
+            standing: Standing::Stated(StatedParts::new(alloc)),
+        }
+    }
+
+    /// Takes the next form: Ok exactly where it is a command that isn't refused after the earlier ones, which is added.
+    /// After a refusal every call answers it, and after want of memory `Memory`.
+    pub(crate) fn command_by<P: Passes>(
+        &mut self,
+        passes: &P,
+        form: &Sexpr,
+    ) -> Result<(), ElabError>
+        ensures ok { OnOk result ((self.new ≡ next self.old form.now) × IsTrue (is_standing self.new)) }
+        ensures err { IfErr result (IsNotTaken self.old form.now self.new) }
+    {
+        match self.standing.take(passes, self.alloc, form) {
+            Ok(()) => Ok(()),
+            Err(error) => {
+                self.standing = standing_after(error);
+                Err(error)
+            }
+        }
+    }
+
+    /// The problem that the commands state, of a file that ends at this place: exactly where none was refused and a
+    /// `check-synth` came. Else the first refusal, or reason 60 at the end, or `Memory` where memory was wanted before.
+    pub fn finish(self, end: u32) -> Result<Problem, ElabError>
+        ensures { result ≡ made end self }
+    {
+        match self.standing {
+            Standing::Stated(stated) => problem_of(stated, end),
+            Standing::Refused(fault) => Err(ElabError::Fault(fault)),
+            Standing::Spent => Err(ElabError::Memory),
+        }
+    }
+}
+
+impl Standing {
+    /// Takes the form, if nothing was refused before it.
+    fn take<P: Passes>(&mut self, passes: &P, alloc: Global, form: &Sexpr) -> Result<(), ElabError>
+        requires { IsSoundStanding self.old }
+        ensures ok { OnOk result ((outcome_in self.new ≡ next (outcome_in self.old) form.now) × IsTrue (is_standing (outcome_in self.new))) }
+        ensures sound { OnOk result (IsSoundStanding self.new) }
+        ensures err { IfErr result (IsRefusedAfter (outcome_in self.old) form.now) }
+    {
+        match self {
+            Standing::Stated(stated) => stated.take(passes, alloc, form),
+            Standing::Refused(fault) => Err(ElabError::Fault(*fault)),
+            Standing::Spent => Err(ElabError::Memory),
+        }
+    }
+}
+
+/// What an elaborator stands for after this error.
+fn standing_after(error: ElabError) -> Standing
+    ensures { result ≡ standing_after error }
+{
+    match error {
+        ElabError::Fault(fault) => Standing::Refused(fault),
+        ElabError::Memory => Standing::Spent,
+    }
+}
+
+/// The problem that has been stated, where a `check-synth` came before the end; else reason 60 there.
+fn problem_of(stated: StatedParts, end: u32) -> Result<Problem, ElabError>
+    requires { IsSoundState stated }
+    ensures { result ≡ answered (closed end (stands stated)) }
+{
+    let StatedParts {
+        infos,
+        signature,
+        rulebook,
+        wanted,
+        constraints,
+        is_over,
+    } = stated;
+    let Some(wanted) = wanted else {
+        return Err(ElabError::Fault(refusal(end, 60)));
+    };
+    if !is_over {
+        return Err(ElabError::Fault(refusal(end, 60)));
+    }
+    let WantedFunction {
+        name,
+        owner: _,
+        grammar,
+    } = wanted;
+    Ok(Problem::new(infos, signature, rulebook, grammar, name, constraints))
+}
