@@ -12,8 +12,8 @@ use Rattle.syntax_core.specs.declared.syntax.Body.TheFolds.{ind-Body}
 use Rattle.syntax_core.specs.declared.syntax.Leaf as leaf
 use Rattle.syntax_core.specs.declared.syntax.Pair.{Pair}
 use Rattle.syntax_core.specs.declared.syntax.Scope.{Scope, map-Scope, roll-Scope}
-use Rattle.elab_core.specs.Bodies.{Branch, branches_within, width}
-use Rattle.elab_core.proofs.Branchings.{branches-Leaf, branches-Fork, width-Fork, width-Leaf}
+use Rattle.name_core.specs.Bodies.{Branch, branches_within, width}
+use Rattle.name_core.proofs.Branchings.{branches-Leaf, branches-Fork, width-Fork, width-Leaf}
 use Rattle.elab_core.proofs.ExpInduction.{each}
 
 layer : (P : Body → Type 0) → ((scope : Scope) → All P scope.bodies → P (Fork scope)) → ((l : leaf.Leaf) → P (Leaf l))

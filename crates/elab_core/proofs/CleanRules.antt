@@ -37,24 +37,24 @@ use Rattle.syntax_core.specs.declared.syntax.Exp.{Exp}
 use Rattle.syntax_core.specs.declared.syntax.Exp as exp
 use Rattle.syntax_core.specs.Literals.{is_out_of_range, negative, positive}
 use Rattle.syntax_core.specs.Roles.{operator_named}
-use Rattle.elab_core.specs.declared.open.OpenExp.{OpenExp}
-use Rattle.elab_core.specs.declared.open.OpenNode.{OpenNode, out-OpenNode}
-use Rattle.elab_core.specs.declared.open.OpenNode as node
-use Rattle.elab_core.specs.declared.open.OpenNode.{roll-OpenNode, roll-out-OpenNode}
-use Rattle.elab_core.specs.declared.open.OpenNode.TheOpen.{OpenNode-F}
-use Rattle.elab_core.specs.declared.open.OpenNode.TheVariants.{rolls-Slot, rolls-Term, rolls-Literal, rolls-Apply, rolls-Call}
-use Rattle.elab_core.specs.declared.variables.Variables.{Variables}
-use Rattle.elab_core.specs.Faults.{bad_if, first, found_from}
-use Rattle.elab_core.specs.Names.{has}
-use Rattle.elab_core.specs.Opens.{application_node, literal_node, negated_in, opened, operation_node, relation_named, symbol_node}
+use Rattle.sort_core.specs.declared.open.OpenExp.{OpenExp}
+use Rattle.sort_core.specs.declared.open.OpenNode.{OpenNode, out-OpenNode}
+use Rattle.sort_core.specs.declared.open.OpenNode as node
+use Rattle.sort_core.specs.declared.open.OpenNode.{roll-OpenNode, roll-out-OpenNode}
+use Rattle.sort_core.specs.declared.open.OpenNode.TheOpen.{OpenNode-F}
+use Rattle.sort_core.specs.declared.open.OpenNode.TheVariants.{rolls-Slot, rolls-Term, rolls-Literal, rolls-Apply, rolls-Call}
+use Rattle.sort_core.specs.declared.variables.Variables.{Variables}
+use Rattle.name_core.specs.Faults.{bad_if, first, found_from}
+use Rattle.name_core.specs.Names.{has}
+use Rattle.sort_core.specs.Opens.{application_node, literal_node, negated_in, opened, operation_node, relation_named, symbol_node}
 use Rattle.elab_core.specs.Rules.{expr_of, expr_of_node, value_of_literal}
-use Rattle.elab_core.specs.Sorts.{Survey, faults_as, operand_faults, operand_faults_at, same_stated, survey, survey_of_node, wanted_sort}
+use Rattle.sort_core.specs.Sorts.{Survey, faults_as, operand_faults, operand_faults_at, same_stated, survey, survey_of_node, wanted_sort}
 use Rattle.elab_core.proofs.Counts.{opened-Apply, opened-Negative, opened-Numeral, opened-Symbol}
 use Rattle.elab_core.proofs.ExpInduction.{by_arguments}
 use Rattle.elab_core.proofs.Exprs.{expr-Slot, expr-Term, expr-Literal, expr-Apply, expr-Call}
-use Rattle.elab_core.proofs.Faultless.{none_both, none_parts, not_bad}
-use Rattle.elab_core.proofs.Firsts.{first-found_from}
-use Rattle.elab_core.proofs.Surveys.{survey-Apply, survey-Literal}
+use Rattle.sort_core.proofs.Faultless.{none_both, none_parts, not_bad}
+use Rattle.name_core.proofs.Firsts.{first-found_from}
+use Rattle.sort_core.proofs.Surveys.{survey-Apply, survey-Literal}
 
 abbrev pub signs : Expr → Signs
 signs = fold-Expr Signs signs_step

@@ -23,12 +23,12 @@ use Rattle.syntax_core.specs.declared.syntax.Exp.{Exp}
 use Rattle.syntax_core.specs.declared.syntax.Exp as exp
 use Rattle.syntax_core.specs.Literals.{negative, positive}
 use Rattle.syntax_core.specs.Roles.{operator_named}
-use Rattle.elab_core.specs.declared.open.OpenExp.{OpenExp}
-use Rattle.elab_core.specs.declared.open.OpenNode.{OpenNode, out-OpenNode}
-use Rattle.elab_core.specs.declared.open.OpenNode as node
-use Rattle.elab_core.specs.declared.variables.Variables.{Variables}
-use Rattle.elab_core.specs.Names.{has}
-use Rattle.elab_core.specs.Opens.{application_node, literal_node, negated_in, opened, operation_node, relation_named}
+use Rattle.sort_core.specs.declared.open.OpenExp.{OpenExp}
+use Rattle.sort_core.specs.declared.open.OpenNode.{OpenNode, out-OpenNode}
+use Rattle.sort_core.specs.declared.open.OpenNode as node
+use Rattle.sort_core.specs.declared.variables.Variables.{Variables}
+use Rattle.name_core.specs.Names.{has}
+use Rattle.sort_core.specs.Opens.{application_node, literal_node, negated_in, opened, operation_node, relation_named}
 use Rattle.elab_core.specs.Rules.{expr_of, expr_of_node, value_of_literal}
 use Rattle.elab_core.proofs.Counts.{Negation, Operation, applied, kept, minus, negation, opened-Apply, opened-Negative, opened-Numeral, opened-Symbol, operation, turned}
 use Rattle.elab_core.proofs.ExpInduction.{by_arguments}

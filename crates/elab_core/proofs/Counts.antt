@@ -27,13 +27,13 @@ use Rattle.syntax_core.specs.declared.syntax.Exp.TheOpen.{Exp-F, Application-F}
 use Rattle.syntax_core.specs.declared.syntax.Exp.TheFolds.{fold-Exp}
 use Rattle.syntax_core.specs.Literals.{negative, positive}
 use Rattle.syntax_core.specs.Roles.{operator_named}
-use Rattle.elab_core.specs.declared.open.OpenExp.{OpenExp}
-use Rattle.elab_core.specs.declared.open.OpenNode.{OpenNode, out-OpenNode}
-use Rattle.elab_core.specs.declared.open.OpenNode as node
-use Rattle.elab_core.specs.declared.open.OpenNode.TheOpen.{OpenNode-F}
-use Rattle.elab_core.specs.declared.variables.Variables.{Variables}
-use Rattle.elab_core.specs.Names.{has}
-use Rattle.elab_core.specs.Opens.{application_node, literal_node, negated_in, opened, opened_application, operation_node, relation_named, symbol_node}
+use Rattle.sort_core.specs.declared.open.OpenExp.{OpenExp}
+use Rattle.sort_core.specs.declared.open.OpenNode.{OpenNode, out-OpenNode}
+use Rattle.sort_core.specs.declared.open.OpenNode as node
+use Rattle.sort_core.specs.declared.open.OpenNode.TheOpen.{OpenNode-F}
+use Rattle.sort_core.specs.declared.variables.Variables.{Variables}
+use Rattle.name_core.specs.Names.{has}
+use Rattle.sort_core.specs.Opens.{application_node, literal_node, negated_in, opened, opened_application, operation_node, relation_named, symbol_node}
 use Rattle.elab_core.specs.Rules.{expr_of, expr_of_node}
 use Rattle.elab_core.proofs.ExpInduction.{by_arguments}
 use Rattle.elab_core.proofs.Exprs.{expr-Slot, expr-Term, expr-Literal, expr-Apply, expr-Call}

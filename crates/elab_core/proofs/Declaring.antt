@@ -24,13 +24,13 @@ use Rattle.syntax_core.specs.declared.fault.Fault.{Fault}
 use Rattle.syntax_core.specs.declared.syntax.Declaration.{Declaration}
 use Rattle.syntax_core.specs.declared.syntax.Function.{Function}
 use Rattle.syntax_core.specs.declared.syntax.Pair.{Pair}
-use Rattle.elab_core.specs.Faults.{bad_if, first, found_after, found_from, past}
+use Rattle.name_core.specs.Faults.{bad_if, first, found_after, found_from, past}
 use Rattle.elab_core.specs.Fitting.{RelationFits, RelationsFit}
-use Rattle.elab_core.specs.Limits.{declaration_limits, long_name, pair_limits, pairs_limits}
-use Rattle.elab_core.specs.Names.{declaration_names, function_names, has, is_plain, is_sort, names_in, parameter_names, sort_names, term_pairs, texts, unfit_name, unknown_name}
-use Rattle.elab_core.specs.Opens.{number_named}
-use Rattle.elab_core.specs.Relations.{kind_of, param_of, relation_of, sort_named, type_named}
-use Rattle.elab_core.specs.Sorts.{declaration_faults}
+use Rattle.name_core.specs.Limits.{declaration_limits, long_name, pair_limits, pairs_limits}
+use Rattle.name_core.specs.Names.{declaration_names, function_names, has, is_plain, is_sort, names_in, parameter_names, sort_names, term_pairs, texts, unfit_name, unknown_name}
+use Rattle.sort_core.specs.Opens.{number_named}
+use Rattle.sort_core.specs.Relations.{kind_of, param_of, relation_of, sort_named, type_named}
+use Rattle.sort_core.specs.Sorts.{declaration_faults}
 use Rattle.elab_core.proofs.Fits.{has-append, neither, none-left, none-right, passes, stands_among, within_limit}
 use Rattle.elab_core.proofs.Terms.{number_within}
 

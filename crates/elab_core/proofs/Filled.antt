@@ -14,7 +14,7 @@ use Rattle.grammar_core.specs.Grammars.{blank}
 use Rattle.grammar_core.specs.Refusals.{with_production}
 use Rattle.elab_core.specs.Fitting.{with_groups, with_nonterminals, with_productions}
 use Rattle.elab_core.specs.Making.{nonterminal_of, production_of}
-use Rattle.elab_core.specs.Relations.{type_named}
+use Rattle.sort_core.specs.Relations.{type_named}
 
 -- a pair's nonterminal without productions
 abbrev pub bare : Declarations → Pair → Nonterminal

@@ -13,10 +13,10 @@ use Rattle.sig_core.specs.Refusals.{type_refusal, with_type}
 use Rattle.sig_core.specs.Signatures.{Declarations}
 use Rattle.sexpr_core.specs.declared.form.Atom.{Atom}
 use Rattle.syntax_core.specs.declared.fault.Fault.{Fault}
-use Rattle.elab_core.specs.Faults.{bad_if, first, found_after, found_from, past}
+use Rattle.name_core.specs.Faults.{bad_if, first, found_after, found_from, past}
 use Rattle.elab_core.specs.Fitting.{TypesFit}
-use Rattle.elab_core.specs.Limits.{long_name, type_limits}
-use Rattle.elab_core.specs.Names.{has, sort_names, taken_name, texts}
+use Rattle.name_core.specs.Limits.{long_name, type_limits}
+use Rattle.name_core.specs.Names.{has, sort_names, taken_name, texts}
 
 -- Faults that aren't there.
 

@@ -22,20 +22,20 @@ use Rattle.rule_core.specs.declared.rule.Atom.TheVariants as atom
 use Rattle.rule_core.specs.declared.rule.Rule.{Rule}
 use Rattle.rule_core.specs.Flow.{fault_at, fault_from, fits, known_after}
 use Rattle.problem_core.specs.Soundness.{HasFreeNames, HasShortNames, IsShort, IsSoundRule, is_sort_name}
-use Rattle.elab_core.specs.Faults.{first, found_from, past}
-use Rattle.elab_core.specs.Limits.{constructor_limits, long_name, type_limits, types_limits}
+use Rattle.name_core.specs.Faults.{first, found_from, past}
+use Rattle.name_core.specs.Limits.{constructor_limits, long_name, type_limits, types_limits}
 use Rattle.elab_core.specs.Making.{added, constructor_of, constructors_of, with_terms, with_types}
-use Rattle.elab_core.specs.Names.{has, sort_names, texts}
-use Rattle.elab_core.proofs.Having.{has-sorts}
-use Rattle.elab_core.proofs.NameFacts.{TypesNamed, types_named}
+use Rattle.name_core.specs.Names.{has, sort_names, texts}
+use Rattle.name_core.proofs.Having.{has-sorts}
+use Rattle.name_core.proofs.NameFacts.{TypesNamed, types_named}
 use Rattle.problem_core.specs.declared.parts.Constraint.{Constraint}
 use Rattle.syntax_core.specs.declared.commands.Head.TheVariants as head
 use Rattle.elab_core.specs.Elaborating.{IsTaken}
 use Rattle.elab_core.specs.Judging.{faults_in, may_come}
-use Rattle.elab_core.specs.Limits.{limits}
-use Rattle.elab_core.specs.Names.{names}
+use Rattle.name_core.specs.Limits.{limits}
+use Rattle.name_core.specs.Names.{names}
 use Rattle.elab_core.specs.Soundness.{IsSoundState, IsSoundWanted}
-use Rattle.elab_core.specs.States.{State, Wanted}
+use Rattle.name_core.specs.States.{State, Wanted}
 use Rattle.elab_core.proofs.Fits.{none-left, none-right}
 
 -- the signature with these types and constructors after its own

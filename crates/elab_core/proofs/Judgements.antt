@@ -10,7 +10,7 @@ use Rattle.sexpr_core.proofs.Runs.{judged_fault}
 use Rattle.problem_core.specs.Problems.{Parts}
 use Rattle.syntax_core.specs.declared.fault.Fault.{Fault}
 use Rattle.elab_core.specs.Judging.{Judges, too_long, spelled, no_spelling, after, closed, stands}
-use Rattle.elab_core.specs.States.{start}
+use Rattle.name_core.specs.States.{start}
 
 pub judged_once : {text : List ℕ} {result other : Result Parts Fault} → Judges text result → Judges text other → result ≡ other
 judged_once (too_long long) (too_long also) = refl

@@ -6,15 +6,15 @@ use Rattle.sexpr_core.specs.Access.{place_of}
 use Rattle.syntax_core.specs.declared.commands.Head.{Head}
 use Rattle.syntax_core.specs.declared.fault.Fault.{Fault}
 use Rattle.syntax_core.specs.Shapes.{refusal}
-use Rattle.elab_core.specs.declared.error.ElabError.{ElabError}
-use Rattle.elab_core.specs.declared.error.ElabError.TheVariants as error
+use Rattle.sort_core.specs.declared.error.ElabError.{ElabError}
+use Rattle.sort_core.specs.declared.error.ElabError.TheVariants as error
 use Rattle.elab_core.specs.Elaborating.{IsJudgedAs, IsNotTaken, IsRefusal, IsRefusedAfter, IsSoundStanding, IsTaken, outcome_in, standing_after}
-use Rattle.elab_core.specs.Errors.{IsDue}
-use Rattle.elab_core.specs.Faults.{first}
-use Rattle.elab_core.specs.Judging.{Outcome, command_fault, faults_in, judged, may_come, outcome_of, refused, shapes, stands, step}
+use Rattle.sort_core.specs.Errors.{IsDue}
+use Rattle.name_core.specs.Faults.{first, shapes}
+use Rattle.elab_core.specs.Judging.{Outcome, command_fault, faults_in, judged, may_come, outcome_of, refused, stands, step}
 use Rattle.elab_core.specs.Making.{added}
-use Rattle.elab_core.specs.States.{State}
-use Rattle.elab_core.proofs.Firsts.{first-append}
+use Rattle.name_core.specs.States.{State}
+use Rattle.name_core.proofs.Firsts.{first-append}
 
 fault_is : (s : State) (h : Head) (form : Sexpr) (o p : Option Fault) → may_come s h ≡ true → first (shapes form) ≡ o → first (faults_in s h form) ≡ p → command_fault s h form ≡ option_or o p
 fault_is s h form o p come e f =

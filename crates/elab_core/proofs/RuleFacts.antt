@@ -22,20 +22,20 @@ use Rattle.rule_core.specs.Rulebooks.{HasSmallParts, IsRuleOf}
 use Rattle.syntax_core.specs.declared.syntax.Case.{Case}
 use Rattle.syntax_core.specs.declared.syntax.Function.{Function}
 use Rattle.syntax_core.specs.declared.syntax.Pair.{Pair}
-use Rattle.elab_core.specs.declared.branch.OpenBranch.{OpenBranch}
-use Rattle.elab_core.specs.declared.branch.OpenCase.{OpenCase}
-use Rattle.elab_core.specs.Bodies.{Branch, Site, branches_of, rule_count, sites_of, width}
-use Rattle.elab_core.specs.Branches.{HasNarrowCases, IsNarrow, constructor_named, open_branch, open_branches, open_case, open_cases}
-use Rattle.elab_core.specs.Faults.{first}
-use Rattle.elab_core.specs.Names.{has, is_plain, names_in, plain_pairs, term_pairs, texts}
-use Rattle.elab_core.specs.Opens.{opened, variables_of, within}
-use Rattle.elab_core.specs.Relations.{declared_with, kind_of, param_of, relation_of, type_named}
+use Rattle.sort_core.specs.declared.branch.OpenBranch.{OpenBranch}
+use Rattle.sort_core.specs.declared.branch.OpenCase.{OpenCase}
+use Rattle.name_core.specs.Bodies.{Branch, Site, branches_of, rule_count, sites_of, width}
+use Rattle.sort_core.specs.Branches.{HasNarrowCases, IsNarrow, constructor_named, open_branch, open_branches, open_case, open_cases}
+use Rattle.name_core.specs.Faults.{first}
+use Rattle.name_core.specs.Names.{has, is_plain, names_in, plain_pairs, term_pairs, texts}
+use Rattle.sort_core.specs.Opens.{opened, variables_of, within}
+use Rattle.sort_core.specs.Relations.{declared_with, kind_of, param_of, relation_of, type_named}
 use Rattle.elab_core.specs.Rules.{HasFewPlain, HasRules, atoms_from, rule_of, var_of}
-use Rattle.elab_core.specs.Sorts.{branch_faults, case_faults, constructor_at, declaration_faults, definition_faults, functions_faults, makes, matched_type, pattern_faults, sorts_of}
+use Rattle.sort_core.specs.Sorts.{branch_faults, case_faults, constructor_at, declaration_faults, definition_faults, functions_faults, makes, matched_type, pattern_faults, sorts_of}
 use Rattle.elab_core.proofs.BranchWidths.{no_more_around}
-use Rattle.elab_core.proofs.Faultless.{holds, none_each, none_parts}
+use Rattle.sort_core.proofs.Faultless.{holds, none_each, none_parts}
 use Rattle.elab_core.proofs.Smallness.{atoms_few, few_of_weight, small_atoms}
-use Rattle.elab_core.proofs.TermTypes.{Made, first_term, kinds_of_params, made_by, single, sort_of_matched}
+use Rattle.sort_core.proofs.TermTypes.{Made, first_term, kinds_of_params, made_by, single, sort_of_matched}
 use Rattle.elab_core.proofs.Weights.{HasLightCases, IsLight, weight}
 
 -- A function that has passed the tests of limits, names and sorts, after the signature with the relations of its command. The

@@ -33,28 +33,28 @@ use Rattle.syntax_core.specs.declared.syntax.Exp.{Exp}
 use Rattle.syntax_core.specs.declared.syntax.Function.{Function}
 use Rattle.syntax_core.specs.declared.syntax.Pair.{Pair}
 use Rattle.syntax_core.specs.declared.syntax.Application.{Application}
-use Rattle.elab_core.specs.declared.open.OpenExp.{OpenExp}
-use Rattle.elab_core.specs.declared.open.OpenNode.{OpenNode, out-OpenNode, roll-OpenNode, roll-out-OpenNode}
-use Rattle.elab_core.specs.declared.open.OpenNode as node
-use Rattle.elab_core.specs.declared.open.OpenNode.TheOpen.{OpenNode-F}
-use Rattle.elab_core.specs.declared.open.OpenNode.TheVariants.{rolls-Call}
-use Rattle.elab_core.specs.declared.variables.Variables.{Variables}
-use Rattle.elab_core.specs.declared.branch.OpenBranch.{OpenBranch}
-use Rattle.elab_core.specs.declared.branch.OpenCase.{OpenCase}
-use Rattle.elab_core.specs.Bodies.{Branch, branches_of, width}
-use Rattle.elab_core.specs.Branches.{constructor_named, open_branch, open_branches, open_case, open_cases}
-use Rattle.elab_core.specs.Faults.{bad_if, first, found_from}
-use Rattle.elab_core.specs.Names.{names_in, plain_pairs, texts}
-use Rattle.elab_core.specs.Opens.{opened, variables_of, within}
-use Rattle.elab_core.specs.Relations.{param_of}
+use Rattle.sort_core.specs.declared.open.OpenExp.{OpenExp}
+use Rattle.sort_core.specs.declared.open.OpenNode.{OpenNode, out-OpenNode, roll-OpenNode, roll-out-OpenNode}
+use Rattle.sort_core.specs.declared.open.OpenNode as node
+use Rattle.sort_core.specs.declared.open.OpenNode.TheOpen.{OpenNode-F}
+use Rattle.sort_core.specs.declared.open.OpenNode.TheVariants.{rolls-Call}
+use Rattle.sort_core.specs.declared.variables.Variables.{Variables}
+use Rattle.sort_core.specs.declared.branch.OpenBranch.{OpenBranch}
+use Rattle.sort_core.specs.declared.branch.OpenCase.{OpenCase}
+use Rattle.name_core.specs.Bodies.{Branch, branches_of, width}
+use Rattle.sort_core.specs.Branches.{constructor_named, open_branch, open_branches, open_case, open_cases}
+use Rattle.name_core.specs.Faults.{bad_if, first, found_from}
+use Rattle.name_core.specs.Names.{names_in, plain_pairs, texts}
+use Rattle.sort_core.specs.Opens.{opened, variables_of, within}
+use Rattle.sort_core.specs.Relations.{param_of}
 use Rattle.elab_core.specs.Rules.{atom_in, atom_of, atoms_from, branch_flow, call_atom, case_flow, case_rules, equation_atom, expr_of, expr_of_node, flow_refusal, input_args, output_args, rule_of, var_of}
-use Rattle.elab_core.specs.Sorts.{Survey, argument_faults, argument_faults_at, atom_faults, atom_faults_in, branch_faults, call_faults, case_faults, constructor_at, faults_as, is_term_of, matched_type, pattern_faults, same_stated, sorts_of, survey, survey_of_node}
+use Rattle.sort_core.specs.Sorts.{Survey, argument_faults, argument_faults_at, atom_faults, atom_faults_in, branch_faults, call_faults, case_faults, constructor_at, faults_as, is_term_of, matched_type, pattern_faults, same_stated, sorts_of, survey, survey_of_node}
 use Rattle.elab_core.proofs.BranchWidths.{no_more_around}
 use Rattle.elab_core.proofs.CleanRules.{IsClean, IsFine, apply_fine, clean-Call, clean_exp}
 use Rattle.elab_core.proofs.Conjunctions.{IsApart, opened_apart}
 use Rattle.elab_core.proofs.Exprs.{expr-Apply}
-use Rattle.elab_core.proofs.Faultless.{none_both, none_each, none_parts}
-use Rattle.elab_core.proofs.Firsts.{first-found_from}
+use Rattle.sort_core.proofs.Faultless.{none_both, none_each, none_parts}
+use Rattle.name_core.proofs.Firsts.{first-found_from}
 use Rattle.elab_core.proofs.RuleFacts.{AreDeclared, IsDeclared, IsTested, case_made, here, later, rule_fits}
 use Rattle.elab_core.proofs.Smallness.{All-input_args, All-output_args, atom_cases, atoms_each, equation_cases, is_apply, parts_each, parts_in, parts_of_node}
 use Rattle.elab_core.proofs.Weights.{IsLight}

@@ -27,15 +27,15 @@ use Rattle.syntax_core.specs.declared.syntax.Exp.{Exp}
 use Rattle.syntax_core.specs.declared.syntax.Exp as exp
 use Rattle.syntax_core.specs.Literals.{negative, positive}
 use Rattle.syntax_core.specs.Roles.{operator_named}
-use Rattle.elab_core.specs.declared.open.OpenExp.{OpenExp}
-use Rattle.elab_core.specs.declared.open.OpenNode.{OpenNode, out-OpenNode, roll-OpenNode, roll-out-OpenNode}
-use Rattle.elab_core.specs.declared.open.OpenNode as node
-use Rattle.elab_core.specs.declared.open.OpenNode.{the_lemmas}
-use Rattle.elab_core.specs.declared.open.OpenNode.TheOpen.{OpenNode-F}
-use Rattle.elab_core.specs.declared.open.OpenNode.TheVariants.{rolls-Apply}
-use Rattle.elab_core.specs.declared.variables.Variables.{Variables}
-use Rattle.elab_core.specs.Names.{has}
-use Rattle.elab_core.specs.Opens.{application_node, literal_node, negated_in, opened, operation_node, relation_named, symbol_node}
+use Rattle.sort_core.specs.declared.open.OpenExp.{OpenExp}
+use Rattle.sort_core.specs.declared.open.OpenNode.{OpenNode, out-OpenNode, roll-OpenNode, roll-out-OpenNode}
+use Rattle.sort_core.specs.declared.open.OpenNode as node
+use Rattle.sort_core.specs.declared.open.OpenNode.{the_lemmas}
+use Rattle.sort_core.specs.declared.open.OpenNode.TheOpen.{OpenNode-F}
+use Rattle.sort_core.specs.declared.open.OpenNode.TheVariants.{rolls-Apply}
+use Rattle.sort_core.specs.declared.variables.Variables.{Variables}
+use Rattle.name_core.specs.Names.{has}
+use Rattle.sort_core.specs.Opens.{application_node, literal_node, negated_in, opened, operation_node, relation_named, symbol_node}
 use Rattle.elab_core.specs.Rules.{atom_in, atom_of, atoms_from, call_atom, equation_atom, expr_of, expr_of_node, filled_slot, input_args, output_args}
 use Rattle.elab_core.proofs.Counts.{Negation, Operation, applied, count-Apply, count-Symbol, count-Numeral, count-Negative, exp_count, kept, minus, negation, no_larger, opened-Apply, opened-Negative, opened-Numeral, opened-Symbol, operation, turned}
 use Rattle.elab_core.proofs.ExpInduction.{by_arguments}

@@ -29,20 +29,20 @@ use Rattle.syntax_core.specs.declared.syntax.Exp.TheOpen.{Exp-F}
 use Rattle.syntax_core.specs.Literals.{is_negative, literal_in, literal_named, literal_of, minus, negative_in, number_of, place_of_exp, sort_of_literal}
 use Rattle.problem_core.specs.declared.parts.Constraint.{Constraint}
 use Rattle.problem_core.specs.Soundness.{IsSoundConstraint}
-use Rattle.elab_core.specs.Faults.{bad_if, first, found_from}
+use Rattle.name_core.specs.Faults.{bad_if, first, found_from}
 use Rattle.sexpr_core.specs.declared.form.Sexpr.{Sexpr}
 use Rattle.syntax_core.specs.declared.commands.Head.TheVariants as head
 use Rattle.syntax_core.specs.Syntax.{calls_of, deepest, item_of}
 use Rattle.elab_core.specs.Elaborating.{IsTaken}
 use Rattle.elab_core.specs.Judging.{faults_in}
-use Rattle.elab_core.specs.Limits.{call_limits}
+use Rattle.name_core.specs.Limits.{call_limits}
 use Rattle.elab_core.specs.Soundness.{IsSoundState, IsSoundWanted}
-use Rattle.elab_core.specs.States.{State, Wanted}
+use Rattle.name_core.specs.States.{State, Wanted}
 use Rattle.elab_core.specs.Making.{added, constraint_of, value_of_argument}
-use Rattle.elab_core.specs.Names.{call_names, example_names, has, unknown_name}
-use Rattle.elab_core.specs.Opens.{relation_named}
+use Rattle.name_core.specs.Names.{call_names, example_names, has, unknown_name}
+use Rattle.sort_core.specs.Opens.{relation_named}
 use Rattle.elab_core.specs.Rules.{plain_args, value_of_literal}
-use Rattle.elab_core.specs.Sorts.{are_of_type, example_argument, example_argument_at, example_faults, example_faults_of, examples_faults, is_literal_of, range_faults}
+use Rattle.sort_core.specs.Sorts.{are_of_type, example_argument, example_argument_at, example_faults, example_faults_of, examples_faults, is_literal_of, range_faults}
 use Rattle.elab_core.proofs.Fits.{none-left, none-right, passes, within_limit}
 use Rattle.elab_core.proofs.Terms.{number_within}
 

@@ -22,13 +22,13 @@ use Rattle.syntax_core.specs.declared.fault.Fault.{Fault}
 use Rattle.syntax_core.specs.declared.syntax.Pattern.{Pattern}
 use Rattle.syntax_core.specs.Shapes.{parts_of}
 use Rattle.syntax_core.specs.Syntax.{atom_of, items_at, name_of, others_of, pair_of, pattern_of, type_names}
-use Rattle.elab_core.specs.Faults.{bad_if, first, found_after, found_from, past}
+use Rattle.name_core.specs.Faults.{bad_if, first, found_after, found_from, past}
 use Rattle.elab_core.specs.Fitting.{ConstructorFits, ConstructorsFit, TermsFit}
-use Rattle.elab_core.specs.Limits.{constructor_limits, long_name, type_limits, types_limits}
+use Rattle.name_core.specs.Limits.{constructor_limits, long_name, type_limits, types_limits}
 use Rattle.elab_core.specs.Making.{constructor_of, constructors_of, with_types}
-use Rattle.elab_core.specs.Names.{constructors_in, has, sort_names, taken_name, texts, types_names, unknown_name}
-use Rattle.elab_core.specs.Opens.{number_named}
-use Rattle.elab_core.specs.Relations.{type_named}
+use Rattle.name_core.specs.Names.{constructors_in, has, sort_names, taken_name, texts, types_names, unknown_name}
+use Rattle.sort_core.specs.Opens.{number_named}
+use Rattle.sort_core.specs.Relations.{type_named}
 use Rattle.elab_core.proofs.Fits.{has-append, neither, none-left, none-right, passes, types_fit, within_limit}
 
 -- The type of a name that stands is declared.

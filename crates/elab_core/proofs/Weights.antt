@@ -18,9 +18,9 @@ use Rattle.syntax_core.specs.declared.syntax.Function.{Function}
 use Rattle.syntax_core.specs.declared.syntax.Pair.{Pair}
 use Rattle.syntax_core.specs.Shapes.{parts_of}
 use Rattle.syntax_core.specs.Syntax.{application_of, begins, body_of, case_of, conjuncts_of, deepest, definition_of, expression_of, expression_of_nest, function_of, functions_from, functions_of, item_of, leaf_of, negated_numeral, others_of, pairs_of}
-use Rattle.elab_core.specs.Bodies.{Branch, branches_of, branches_within}
+use Rattle.name_core.specs.Bodies.{Branch, branches_of, branches_within}
 use Rattle.elab_core.proofs.BranchWidths.{All-flat_map}
-use Rattle.elab_core.proofs.Branchings.{branches-Leaf, branches-Fork}
+use Rattle.name_core.proofs.Branchings.{branches-Leaf, branches-Fork}
 use Rattle.elab_core.proofs.Counts.{count-Apply, count-Negative, count-Numeral, count-Symbol, exp_count, sum-first}
 use Rattle.elab_core.proofs.FormInduction.{by_items}
 

@@ -6,13 +6,13 @@ use Rattle.problem_core.specs.Problems.{Parts}
 use Rattle.syntax_core.specs.declared.fault.Fault.{Fault}
 use Rattle.elab_core.specs.declared.elaborator.Standing.{Standing}
 use Rattle.elab_core.specs.declared.elaborator.Standing.TheVariants as standing
-use Rattle.elab_core.specs.declared.error.ElabError.{ElabError}
-use Rattle.elab_core.specs.declared.error.ElabError.TheVariants as error
+use Rattle.sort_core.specs.declared.error.ElabError.{ElabError}
+use Rattle.sort_core.specs.declared.error.ElabError.TheVariants as error
 use Rattle.syntax_core.specs.declared.commands.Head.{Head}
-use Rattle.elab_core.specs.Faults.{first}
+use Rattle.name_core.specs.Faults.{first}
 use Rattle.elab_core.specs.Judging.{Outcome, stands, refused, closed, command_fault, faults_in, judged, may_come, step}
 use Rattle.elab_core.specs.Making.{added}
-use Rattle.elab_core.specs.States.{State}
+use Rattle.name_core.specs.States.{State}
 use Rattle.elab_core.specs.Soundness.{IsSoundState}
 
 -- the outcome of the commands so far; none once memory was wanted

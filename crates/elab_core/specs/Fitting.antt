@@ -15,9 +15,9 @@ use Rattle.grammar_core.specs.declared.production.Production.{Production}
 use Rattle.grammar_core.specs.Grammars.{IsKnown}
 use Rattle.grammar_core.specs.Refusals.{nonterminal_refusal, production_refusal, with_nonterminal, with_production}
 use Rattle.syntax_core.specs.declared.syntax.Pair.{Pair}
-use Rattle.elab_core.specs.Relations.{type_named}
+use Rattle.sort_core.specs.Relations.{type_named}
 use Rattle.elab_core.specs.Making.{constructors_of, production_of, with_types}
-use Rattle.elab_core.specs.Names.{names_in, texts}
+use Rattle.name_core.specs.Names.{names_in, texts}
 
 -- types of these names
 abbrev pub TypesFit : Declarations → List (List ℕ) → Type 0

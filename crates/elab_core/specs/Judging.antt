@@ -1,5 +1,5 @@
 -- What a file states, or why it is refused.
-use Rattle.std.specs.Prelude.{◌<◌, ◌≤◌, ℕ, Bool, not, ◌&&◌, is_some, if◌then◌else◌, Option, Some, None, Result, Ok, Err, List, [], ◌∷◌, ◌++◌, map, length}
+use Rattle.std.specs.Prelude.{◌<◌, ◌≤◌, ℕ, Bool, not, ◌&&◌, is_some, if◌then◌else◌, Option, Some, None, Result, Ok, Err, List, [], ◌∷◌, ◌++◌, length}
 use Rattle.std.specs.Option.{option_map_or}
 use Rattle.sexpr_core.specs.declared.form.Sexpr.{Sexpr}
 use Rattle.sexpr_core.specs.Access.{place_of, symbol_of}
@@ -8,19 +8,16 @@ use Rattle.problem_core.specs.Problems.{Parts}
 use Rattle.syntax_core.specs.declared.commands.Head.{Head}
 use Rattle.syntax_core.specs.declared.commands.Head.TheVariants as head
 use Rattle.syntax_core.specs.declared.fault.Fault.{Fault}
-use Rattle.syntax_core.specs.declared.roles.Due.TheVariants.{One}
-use Rattle.syntax_core.specs.declared.roles.Role.TheVariants as role
 use Rattle.syntax_core.specs.Commands.{head_named}
-use Rattle.syntax_core.specs.Misfits.{misfits}
 use Rattle.syntax_core.specs.Shapes.{first_item, refusal}
 use Rattle.syntax_core.specs.Syntax.{functions_of}
-use Rattle.elab_core.specs.Faults.{first}
-use Rattle.elab_core.specs.Limits.{limits}
+use Rattle.name_core.specs.Faults.{first, shapes}
+use Rattle.name_core.specs.Limits.{limits}
 use Rattle.elab_core.specs.Making.{added}
-use Rattle.elab_core.specs.Names.{names}
+use Rattle.name_core.specs.Names.{names}
 use Rattle.elab_core.specs.Rules.{functions_flow}
-use Rattle.elab_core.specs.Sorts.{sorts}
-use Rattle.elab_core.specs.States.{State, Wanted, start}
+use Rattle.sort_core.specs.Sorts.{sorts}
+use Rattle.name_core.specs.States.{State, Wanted, start}
 
 -- the command may come next: declarations before the `synth-fun`, constraints after it, then the `check-synth`
 abbrev pub may_come : State → Head → Bool
@@ -30,10 +27,6 @@ may_come s head.DefineFunsRec = not (is_some s.wanted)
 may_come s head.SynthFun = not (is_some s.wanted)
 may_come s head.Constraint = is_some s.wanted && not s.is_over
 may_come s head.CheckSynth = is_some s.wanted && not s.is_over
-
--- the nodes that break the shape of a command
-abbrev pub shapes : Sexpr → List Fault
-shapes form = map (λ place. refusal place 10) (misfits (One role.Command) form)
 
 -- the rules that fail data flow
 abbrev pub flow : State → Head → Sexpr → List Fault

@@ -27,14 +27,14 @@ use Rattle.syntax_core.specs.declared.literal.Literal.TheVariants.{Number, Truth
 use Rattle.syntax_core.specs.declared.syntax.Function.{Function}
 use Rattle.syntax_core.specs.declared.syntax.Pair.{Pair}
 use Rattle.syntax_core.specs.Shapes.{refusal}
-use Rattle.elab_core.specs.declared.open.OpenExp.{OpenExp}
-use Rattle.elab_core.specs.declared.open.OpenNode.{OpenNode, out-OpenNode}
-use Rattle.elab_core.specs.declared.open.OpenNode.TheFolds.{fold-OpenNode}
-use Rattle.elab_core.specs.declared.open.OpenNode.TheOpen.{OpenNode-F, OpenExp-F}
-use Rattle.elab_core.specs.declared.branch.OpenBranch.{OpenBranch}
-use Rattle.elab_core.specs.declared.branch.OpenCase.{OpenCase}
-use Rattle.elab_core.specs.Branches.{open_cases}
-use Rattle.elab_core.specs.Relations.{declared_with, sort_named}
+use Rattle.sort_core.specs.declared.open.OpenExp.{OpenExp}
+use Rattle.sort_core.specs.declared.open.OpenNode.{OpenNode, out-OpenNode}
+use Rattle.sort_core.specs.declared.open.OpenNode.TheFolds.{fold-OpenNode}
+use Rattle.sort_core.specs.declared.open.OpenNode.TheOpen.{OpenNode-F, OpenExp-F}
+use Rattle.sort_core.specs.declared.branch.OpenBranch.{OpenBranch}
+use Rattle.sort_core.specs.declared.branch.OpenCase.{OpenCase}
+use Rattle.sort_core.specs.Branches.{open_cases}
+use Rattle.sort_core.specs.Relations.{declared_with, sort_named}
 
 -- Expressions. What has no value, as a variable for terms, stands in none that is of its sort.
 

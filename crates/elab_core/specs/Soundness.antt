@@ -4,7 +4,7 @@ use Rattle.sig_core.specs.Signatures.{Declarations}
 use Rattle.sig_core.specs.WellFormed.{IsWellFormed}
 use Rattle.problem_core.specs.declared.parts.Constraint.{Constraint}
 use Rattle.problem_core.specs.Soundness.{HasFreeNames, HasShortNames, IsShort, IsSoundConstraint, IsSoundGrammar, IsSoundRule, wanted_type}
-use Rattle.elab_core.specs.States.{State, Wanted}
+use Rattle.name_core.specs.States.{State, Wanted}
 
 -- Constraints come after the function that is wanted, and fit its type, which is that of its grammar. So does the end.
 abbrev pub IsSoundWanted : Declarations → List Constraint → Bool → Option Wanted → Type 0

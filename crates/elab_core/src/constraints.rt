@@ -2,28 +2,29 @@
 ghost use Rattle.std.specs.Prelude.{◌≡◌, ◌≤◌, [], ◌++◌, None, IsTrue, is_some, map, length, IfErr, OnOk};
 ghost use Rattle.std.specs.List.{flat_map};
 ghost use Rattle.elab_core.specs.Elaborating.{IsTaken};
-ghost use Rattle.elab_core.specs.Errors.{IsDue};
-ghost use Rattle.elab_core.specs.Faults.{first, found_from};
+ghost use Rattle.sort_core.specs.Errors.{IsDue};
+ghost use Rattle.name_core.specs.Faults.{first, found_from};
 ghost use Rattle.elab_core.specs.Judging.{faults_in};
-ghost use Rattle.elab_core.specs.Limits.{call_limits};
+ghost use Rattle.name_core.specs.Limits.{call_limits};
 ghost use Rattle.elab_core.specs.Making.{added, constraint_of};
-ghost use Rattle.elab_core.specs.Names.{call_names};
+ghost use Rattle.name_core.specs.Names.{call_names};
 ghost use Rattle.elab_core.specs.Soundness.{IsSoundState};
-ghost use Rattle.elab_core.specs.Sorts.{example_faults_of};
+ghost use Rattle.sort_core.specs.Sorts.{example_faults_of};
 ghost use Rattle.syntax_core.specs.declared.commands.Head.TheVariants as head;
 
-use crate::error::ElabError;
-use crate::examples::{calls_fault, calls_limit, calls_name, constraint_of};
+use crate::examples::constraint_of;
 use crate::stated::{StatedParts, WantedFunction};
+use name_core::{calls_limit, calls_name};
 use problem_core::Constraints;
 use sexpr_core::Sexpr;
 use sig_core::Signature;
+use sort_core::{ElabError, calls_fault};
 use std::alloc::{AllocError, Global};
 use syntax_core::{Application, Fault, calls_of, item_of, refusal};
 
 /// The fault of calls: of the first past the limit, else the leftmost wrong name, else the leftmost wrong sort. So many
 /// constraints come before.
-#[tactic(auto, using(crate::proofs::Firsts::firsts))]
+#[tactic(auto, using(name_core::proofs::Firsts::firsts))]
 fn examples_fault(
     signature: &Signature,
     wanted: &WantedFunction,

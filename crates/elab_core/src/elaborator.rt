@@ -2,13 +2,13 @@ ghost use Rattle.std.specs.Prelude.{◌≡◌, IsTrue, Some, OnOk, IfErr};
 ghost use Rattle.elab_core.specs.Elaborating.{IsNotTaken, IsRefusedAfter, IsSoundStanding, answered, is_standing, made, next, outcome_in, standing_after};
 ghost use Rattle.elab_core.specs.Judging.{closed, stands};
 ghost use Rattle.elab_core.specs.Soundness.{IsSoundState};
-ghost use Rattle.elab_core.specs.States.{start};
+ghost use Rattle.name_core.specs.States.{start};
 
-use crate::error::ElabError;
 use crate::passes::Passes;
 use crate::stated::{StatedParts, WantedFunction};
 use problem_core::Problem;
 use sexpr_core::Sexpr;
+use sort_core::ElabError;
 use std::alloc::Global;
 use std::marker::Model;
 use syntax_core::{Fault, refusal};

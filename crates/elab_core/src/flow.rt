@@ -1,22 +1,21 @@
 //! The rules of functions, put into a book of rules up to the first that data flow refuses.
 ghost use Rattle.std.specs.Prelude.{◌≡◌, ◌≤◌, ◌+◌, ◌++◌, None, length, sum_by, All, IfErr, OnOk};
 ghost use Rattle.std.specs.List.{flat_map};
-ghost use Rattle.elab_core.specs.Errors.{IsDue};
-ghost use Rattle.elab_core.specs.Faults.{first};
+ghost use Rattle.sort_core.specs.Errors.{IsDue};
+ghost use Rattle.name_core.specs.Faults.{first};
 ghost use Rattle.elab_core.specs.Rules.{HasFewPlain, HasRules, case_flow, case_rules};
 
-use crate::branch::OpenCase;
-use crate::error::ElabError;
 use crate::rules::add_case;
 use rule_core::Rulebook;
 use sig_core::Signature;
+use sort_core::{ElabError, OpenCase};
 use std::alloc::Global;
 
 /// Puts the rules of cases last, in order, up to the first that data flow refuses.
 ///
 /// `Fault` is that of the first such rule: reason 40 at its first atom that uses an unknown variable, 41 at the leaf whose
 /// output isn't known, 42 at the pair of an existential that isn't known.
-#[tactic(auto, using(crate::proofs::Firsts::firsts))]
+#[tactic(auto, using(name_core::proofs::Firsts::firsts))]
 pub(crate) fn add_cases(
     alloc: Global,
     signature: &Signature,

@@ -2,22 +2,22 @@
 ghost use Rattle.std.specs.Prelude.{◌≡◌, ◌≤◌, ◌+◌, ◌++◌, None, map, length, IfOk, OnOk};
 ghost use Rattle.grammar_core.specs.declared.grammar.GrammarError.TheVariants.{Memory};
 ghost use Rattle.grammar_core.specs.Refusals.{nonterminal_refusal, with_nonterminal, with_production};
-ghost use Rattle.elab_core.specs.Branches.{constructor_named};
+ghost use Rattle.sort_core.specs.Branches.{constructor_named};
 ghost use Rattle.elab_core.specs.Fitting.{GroupsFit, GroupsOfFit, NonterminalsFit, ProductionFits, ProductionsFit, WantedFits, with_groups, with_nonterminals, with_productions};
 ghost use Rattle.elab_core.specs.Making.{added, grammar_of, nonterminal_of, production_of, wanted_of};
-ghost use Rattle.elab_core.specs.Names.{groups_of, names_in};
-ghost use Rattle.elab_core.specs.Opens.{number_named};
-ghost use Rattle.elab_core.specs.Relations.{type_named};
+ghost use Rattle.name_core.specs.Names.{groups_of, names_in};
+ghost use Rattle.sort_core.specs.Opens.{number_named};
+ghost use Rattle.sort_core.specs.Relations.{type_named};
 ghost use Rattle.syntax_core.specs.declared.commands.Head.TheVariants as head;
 ghost use Rattle.syntax_core.specs.Syntax.{atom_of, item_of, items_at, nonterminals_of, pair_of};
 
-use crate::functions::type_named;
 use crate::stated::{StatedParts, WantedFunction};
-use crate::variables::place_of;
 use grammar_core::{Grammar, GrammarError, NtId, NtIds};
+use name_core::place_of;
 use rule_core::Names;
 use sexpr_core::Sexpr;
 use sig_core::{Bytes, ConId, Signature, TypeId};
+use sort_core::type_named;
 use std::alloc::{AllocError, Global};
 use syntax_core::{atom_of, item_of, items_at, name_of, others_of, pair_of, parts_of};
 

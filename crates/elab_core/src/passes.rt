@@ -1,15 +1,15 @@
 //! What the passes over a command find, and what the command adds where they find nothing.
 ghost use Rattle.std.specs.Prelude.{◌≡◌, None, true, OnOk, IfErr};
 ghost use Rattle.elab_core.specs.Elaborating.{IsTaken};
-ghost use Rattle.elab_core.specs.Errors.{IsDue};
-ghost use Rattle.elab_core.specs.Faults.{first};
-ghost use Rattle.elab_core.specs.Judging.{faults_in, may_come, shapes};
+ghost use Rattle.sort_core.specs.Errors.{IsDue};
+ghost use Rattle.name_core.specs.Faults.{first, shapes};
+ghost use Rattle.elab_core.specs.Judging.{faults_in, may_come};
 ghost use Rattle.elab_core.specs.Soundness.{IsSoundState};
 ghost use Rattle.syntax_core.specs.declared.commands.Head.TheVariants as head;
 
-use crate::error::ElabError;
 use crate::stated::StatedParts;
 use sexpr_core::Sexpr;
+use sort_core::ElabError;
 use std::alloc::Global;
 use syntax_core::Fault;
 

@@ -4,19 +4,18 @@ ghost use Rattle.std.specs.List.{flat_map, list_any};
 ghost use Rattle.sig_core.specs.Names.{same_name};
 ghost use Rattle.sig_core.specs.Refusals.{with_relation};
 ghost use Rattle.elab_core.specs.Fitting.{RelationFits, RelationsFit};
-ghost use Rattle.elab_core.specs.Faults.{first, found, found_from};
-ghost use Rattle.elab_core.specs.Limits.{declaration_limits};
-ghost use Rattle.elab_core.specs.Names.{declaration_names};
-ghost use Rattle.elab_core.specs.Sorts.{declaration_faults};
-ghost use Rattle.elab_core.specs.Relations.{declared_with, kind_of, param_of, relation_of};
+ghost use Rattle.name_core.specs.Faults.{first, found, found_from};
+ghost use Rattle.name_core.specs.Limits.{declaration_limits};
+ghost use Rattle.name_core.specs.Names.{declaration_names};
+ghost use Rattle.sort_core.specs.Sorts.{declaration_faults};
+ghost use Rattle.sort_core.specs.Relations.{declared_with, kind_of, param_of, relation_of};
 
-use crate::cases::is_plain;
-use crate::functions::type_named;
-use crate::rules::sort_named;
 use crate::stated::StatedParts;
 use crate::types::want_of_memory;
+use name_core::is_plain;
 use sexpr_core::Atom;
 use sig_core::{Kind, Param, Params, Relation, Signature};
+use sort_core::{sort_named, type_named};
 use std::alloc::{AllocError, Global};
 use syntax_core::{Function, Pair};
 

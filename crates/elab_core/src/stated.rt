@@ -1,7 +1,7 @@
 //! What a file has stated so far.
 ghost use Rattle.std.specs.Prelude.{◌≡◌};
 ghost use Rattle.elab_core.specs.Judging.{may_come};
-ghost use Rattle.elab_core.specs.States.{start};
+ghost use Rattle.name_core.specs.States.{start};
 
 use grammar_core::Grammar;
 use problem_core::{Constraints, Infos};
@@ -20,7 +20,7 @@ pub(crate) struct WantedFunction {
 }
 
 impl Model for WantedFunction {
-    ghost use Rattle.elab_core.specs.States.{Wanted};
+    ghost use Rattle.name_core.specs.States.{Wanted};
 
     ghost Value = { Wanted };
 
@@ -40,7 +40,7 @@ pub(crate) struct StatedParts {
 }
 
 impl Model for StatedParts {
-    ghost use Rattle.elab_core.specs.States.{State};
+    ghost use Rattle.name_core.specs.States.{State};
     ghost use Rattle.std.specs.Coded.{codes};
     ghost use Rattle.expr_core.specs.contracts.expr.Expr as expr;
 

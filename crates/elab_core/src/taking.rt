@@ -1,15 +1,15 @@
 //! The next command, judged and added.
 ghost use Rattle.std.specs.Prelude.{◌≡◌, None, true, OnOk, IfErr};
 ghost use Rattle.elab_core.specs.Elaborating.{IsJudgedAs, IsRefusal, IsTaken};
-ghost use Rattle.elab_core.specs.Errors.{IsDue};
-ghost use Rattle.elab_core.specs.Faults.{first};
-ghost use Rattle.elab_core.specs.Judging.{faults_in, may_come, shapes, stands, step};
+ghost use Rattle.sort_core.specs.Errors.{IsDue};
+ghost use Rattle.name_core.specs.Faults.{first, shapes};
+ghost use Rattle.elab_core.specs.Judging.{faults_in, may_come, stands, step};
 ghost use Rattle.elab_core.specs.Soundness.{IsSoundState};
 
-use crate::error::ElabError;
 use crate::passes::Passes;
 use crate::stated::StatedParts;
 use sexpr_core::Sexpr;
+use sort_core::ElabError;
 use std::alloc::Global;
 use syntax_core::Head;
 

@@ -4,22 +4,22 @@ ghost use Rattle.std.specs.List.{flat_map, enumerate_from};
 ghost use Rattle.sig_core.specs.declared.signature.SigError.TheVariants.{Memory};
 ghost use Rattle.sig_core.specs.Refusals.{type_refusal, with_constructor, with_type};
 ghost use Rattle.elab_core.specs.Elaborating.{IsTaken};
-ghost use Rattle.elab_core.specs.Faults.{first};
+ghost use Rattle.name_core.specs.Faults.{first};
 ghost use Rattle.elab_core.specs.Judging.{faults_in, may_come};
 ghost use Rattle.elab_core.specs.Fitting.{ConstructorFits, ConstructorsFit, TermsFit, TypesFit};
 ghost use Rattle.elab_core.specs.Making.{added, constructor_of, constructors_of, with_terms};
-ghost use Rattle.elab_core.specs.Names.{texts};
+ghost use Rattle.name_core.specs.Names.{texts};
 ghost use Rattle.elab_core.specs.Soundness.{IsSoundState};
 ghost use Rattle.sig_core.specs.WellFormed.{IsWellFormed};
-ghost use Rattle.elab_core.specs.Relations.{type_named};
+ghost use Rattle.sort_core.specs.Relations.{type_named};
 ghost use Rattle.syntax_core.specs.declared.commands.Head.TheVariants as head;
 ghost use Rattle.syntax_core.specs.Syntax.{atom_of, items_at, pair_of, pattern_of};
 
-use crate::functions::type_named;
 use crate::stated::StatedParts;
 use items::Items;
 use sexpr_core::Sexpr;
 use sig_core::{Constructor, SigError, Signature, TypeId, TypeIds};
+use sort_core::type_named;
 use std::alloc::{AllocError, Global};
 use syntax_core::{atom_of, items_at, name_of, others_of, pair_of, parts_of};
 

@@ -1,5 +1,5 @@
 use crate::language::expression;
-use elab_core::atom_fault;
+use sort_core::atom_fault;
 use items::Items;
 use sig_core::{Bytes, Constructor, Signature, Sort, TypeId};
 use std::alloc::{AllocError, Global};

@@ -1,7 +1,7 @@
 //! Expressions over the slots x, r and b, the term t and its one child c.
 ghost use Rattle.std.specs.Prelude.{◌≤◌, length, IfOk};
 
-use elab_core::{OpenExp, Variables, opened};
+use sort_core::{OpenExp, Variables, opened};
 use rule_core::Names;
 use sexpr_core::read_whole;
 use sig_core::{Bytes, Signature};

@@ -1,5 +1,5 @@
 use crate::language::expression;
-use elab_core::{OpenExp, OpenNode};
+use sort_core::{OpenExp, OpenNode};
 use std::alloc::{AllocError, Global};
 use std::test::Fail;
 use syntax_core::Literal;

@@ -4,8 +4,8 @@ use Rattle.sexpr_core.specs.declared.form.Sexpr.{Sexpr}
 use Rattle.grammar_core.specs.declared.ids.NtId.{NtId}
 use Rattle.grammar_core.specs.Refusals.{production_refusal}
 use Rattle.syntax_core.specs.Syntax.{atom_of, name_of, others_of}
-use Rattle.elab_core.specs.Branches.{constructor_named}
-use Rattle.elab_core.specs.Opens.{number_named}
+use Rattle.sort_core.specs.Branches.{constructor_named}
+use Rattle.sort_core.specs.Opens.{number_named}
 use Rattle.elab_core.proofs.NextItems.{where_none}
 use Rattle.elab_core.proofs.grammars.add_production.Goals as goal
 

@@ -3,8 +3,8 @@ use Rattle.sexpr_core.specs.declared.form.Atom.{Atom}
 use Rattle.sexpr_core.specs.declared.form.Sexpr.{Sexpr}
 use Rattle.grammar_core.specs.declared.ids.NtId.{NtId}
 use Rattle.syntax_core.specs.Syntax.{atom_of}
-use Rattle.elab_core.specs.Opens.{number_named}
-use Rattle.elab_core.proofs.Dues.{made_more}
+use Rattle.sort_core.specs.Opens.{number_named}
+use Rattle.sort_core.proofs.Dues.{made_more}
 use Rattle.elab_core.proofs.grammars.children_of.Goals as goal
 
 pub loop-form-preserved : goal.loop-form-preserved

@@ -2,7 +2,7 @@ use Rattle.std.proofs.Common.{◌≡◌, ◌++◌, map, drop}
 use Rattle.sexpr_core.specs.declared.form.Sexpr.{Sexpr}
 use Rattle.grammar_core.specs.declared.ids.NtId.{NtId}
 use Rattle.syntax_core.specs.Syntax.{atom_of}
-use Rattle.elab_core.specs.Opens.{number_named}
+use Rattle.sort_core.specs.Opens.{number_named}
 use Rattle.elab_core.proofs.grammars.children_of.Given as goal
 
 -- what is left makes the rest

@@ -4,7 +4,7 @@ use Rattle.grammar_core.specs.declared.production.Nonterminal.{Nonterminal}
 use Rattle.syntax_core.specs.declared.syntax.Pair.{Pair}
 use Rattle.syntax_core.specs.Syntax.{items_at, nonterminals_of, pair_of}
 use Rattle.elab_core.specs.Fitting.{with_groups, with_nonterminals}
-use Rattle.elab_core.specs.Names.{names_in}
+use Rattle.name_core.specs.Names.{names_in}
 use Rattle.elab_core.proofs.Filled.{grammar_made, group_productions}
 use Rattle.elab_core.proofs.grammars.grammar_of_groups.Goals as goal
 

@@ -1,6 +1,6 @@
 use Rattle.std.proofs.Common.{◌≡◌, ◌++◌, map, drop}
 use Rattle.syntax_core.specs.Syntax.{pair_of}
-use Rattle.elab_core.specs.Names.{names_in}
+use Rattle.name_core.specs.Names.{names_in}
 use Rattle.elab_core.proofs.grammars.names_of.Given as goal
 
 -- what is left makes the rest

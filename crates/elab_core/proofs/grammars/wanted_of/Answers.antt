@@ -4,8 +4,8 @@ use Rattle.sexpr_core.specs.declared.form.Atom.{Atom}
 use Rattle.grammar_core.specs.declared.production.Nonterminal.{Nonterminal}
 use Rattle.syntax_core.specs.Syntax.{atom_of, item_of}
 use Rattle.elab_core.specs.Making.{grammar_of}
-use Rattle.elab_core.specs.Relations.{type_named}
-use Rattle.elab_core.specs.States.{Wanted}
+use Rattle.sort_core.specs.Relations.{type_named}
+use Rattle.name_core.specs.States.{Wanted}
 use Rattle.elab_core.proofs.grammars.wanted_of.Goals as goal
 
 pub grammar_of-requires-clause-owner : goal.grammar_of-requires-clause-owner

@@ -1,6 +1,6 @@
 use Rattle.std.proofs.Common.{◌≡◌, map, drop}
 use Rattle.elab_core.specs.Fitting.{RelationsFit}
-use Rattle.elab_core.specs.Relations.{declared_with, relation_of}
+use Rattle.sort_core.specs.Relations.{declared_with, relation_of}
 use Rattle.elab_core.proofs.relations.add_relations.Given as goal
 
 -- what is left fits, and makes the rest

@@ -1,5 +1,5 @@
 use Rattle.std.proofs.Common.{◌≡◌, ◌++◌, map, drop}
-use Rattle.elab_core.specs.Relations.{param_of}
+use Rattle.sort_core.specs.Relations.{param_of}
 use Rattle.elab_core.proofs.relations.params_of.Given as goal
 
 -- what is left makes the rest

@@ -3,7 +3,7 @@ use Rattle.sexpr_core.specs.declared.form.Atom.{Atom}
 use Rattle.sexpr_core.specs.declared.form.Sexpr.{Sexpr}
 use Rattle.syntax_core.specs.Syntax.{pair_of}
 use Rattle.elab_core.specs.Fitting.{TypesFit}
-use Rattle.elab_core.specs.Names.{texts}
+use Rattle.name_core.specs.Names.{texts}
 use Rattle.elab_core.proofs.NextItems.{next_made}
 use Rattle.elab_core.proofs.types.add_types.Goals as goal
 

@@ -1,7 +1,7 @@
 use Rattle.std.proofs.Common.{◌≡◌, ◌++◌, map, drop}
 use Rattle.syntax_core.specs.Syntax.{pair_of}
 use Rattle.elab_core.specs.Fitting.{TypesFit}
-use Rattle.elab_core.specs.Names.{texts}
+use Rattle.name_core.specs.Names.{texts}
 use Rattle.elab_core.proofs.types.add_types.Given as goal
 
 -- what is left fits, and makes the rest

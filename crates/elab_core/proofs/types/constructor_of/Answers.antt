@@ -4,8 +4,8 @@ use Rattle.sig_core.specs.declared.signature.Constructor.{Constructor}
 use Rattle.sexpr_core.specs.declared.form.Atom.{Atom}
 use Rattle.sexpr_core.specs.declared.form.Sexpr.{Sexpr}
 use Rattle.syntax_core.specs.Syntax.{atom_of, name_of, others_of}
-use Rattle.elab_core.specs.Names.{texts}
-use Rattle.elab_core.specs.Relations.{type_named}
+use Rattle.name_core.specs.Names.{texts}
+use Rattle.sort_core.specs.Relations.{type_named}
 use Rattle.elab_core.proofs.Terms.{types_of_texts}
 use Rattle.elab_core.proofs.types.constructor_of.Goals as goal
 

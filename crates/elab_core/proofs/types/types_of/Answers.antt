@@ -3,8 +3,8 @@ use Rattle.sig_core.specs.declared.ids.TypeId.{TypeId}
 use Rattle.sexpr_core.specs.declared.form.Atom.{Atom}
 use Rattle.sexpr_core.specs.declared.form.Sexpr.{Sexpr}
 use Rattle.syntax_core.specs.Syntax.{atom_of}
-use Rattle.elab_core.specs.Relations.{type_named}
-use Rattle.elab_core.proofs.Dues.{made_more}
+use Rattle.sort_core.specs.Relations.{type_named}
+use Rattle.sort_core.proofs.Dues.{made_more}
 use Rattle.elab_core.proofs.types.types_of.Goals as goal
 
 pub loop-form-preserved : goal.loop-form-preserved

@@ -1,6 +1,6 @@
 use Rattle.std.proofs.Common.{◌≡◌, ◌++◌, map, drop}
 use Rattle.syntax_core.specs.Syntax.{atom_of}
-use Rattle.elab_core.specs.Relations.{type_named}
+use Rattle.sort_core.specs.Relations.{type_named}
 use Rattle.elab_core.proofs.types.types_of.Given as goal
 
 -- what is left makes the rest

@@ -2,8 +2,8 @@ use Rattle.std.proofs.Common.{[], map, refl, subst, sym}
 use Rattle.std.proofs.lemmas.List.{append-nil}
 use Rattle.sig_core.specs.WellFormed.{relation_names}
 use Rattle.elab_core.specs.Fitting.{RelationsFit}
-use Rattle.elab_core.specs.Relations.{relation_of}
-use Rattle.elab_core.specs.States.{State}
+use Rattle.sort_core.specs.Relations.{relation_of}
+use Rattle.name_core.specs.States.{State}
 use Rattle.elab_core.proofs.Declaring.{relations_fit}
 use Rattle.elab_core.proofs.stated.StatedParts.declare_relations.Goals as goal
 

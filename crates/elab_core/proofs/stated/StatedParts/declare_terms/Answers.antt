@@ -1,10 +1,10 @@
 use Rattle.std.proofs.Common.{◌≡◌, ◌++◌, Bool, true, not, is_some, Option, Some, None, List, [], length, refl, sym, ap, subst, ◌∙◌}
 use Rattle.syntax_core.specs.declared.fault.Fault.{Fault}
 use Rattle.syntax_core.specs.declared.commands.Head.TheVariants as head
-use Rattle.elab_core.specs.Faults.{first}
-use Rattle.elab_core.specs.Limits.{limits}
-use Rattle.elab_core.specs.Names.{names}
-use Rattle.elab_core.specs.States.{State}
+use Rattle.name_core.specs.Faults.{first}
+use Rattle.name_core.specs.Limits.{limits}
+use Rattle.name_core.specs.Names.{names}
+use Rattle.name_core.specs.States.{State}
 use Rattle.elab_core.proofs.Fits.{none-left, none-right}
 use Rattle.sig_core.specs.WellFormed.{IsWellFormed}
 use Rattle.elab_core.specs.Making.{with_terms}

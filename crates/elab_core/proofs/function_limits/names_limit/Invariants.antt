@@ -1,9 +1,0 @@
-use Rattle.std.proofs.Common.{◌≡◌, drop}
-use Rattle.std.specs.List.{flat_map}
-use Rattle.elab_core.specs.Faults.{first}
-use Rattle.elab_core.specs.Limits.{long_name}
-use Rattle.elab_core.proofs.function_limits.names_limit.Given as goal
-
--- the first fault is among what is left
-abbrev pub invariant-loop-name : goal.invariant-loop-name
-invariant-loop-name l = first (flat_map long_name (drop l.name-index l.names)) ≡ first (flat_map long_name l.names)

@@ -1,6 +1,0 @@
-use Rattle.std.proofs.Common.{◌≡◌, ◌++◌, take}
-use Rattle.elab_core.proofs.function_names.put_symbols.Given as goal
-
--- the first are put
-abbrev pub invariant-loop-symbol : goal.invariant-loop-symbol
-invariant-loop-symbol l = l.out ≡ l.fn.out ++ take l.symbol-index l.symbols

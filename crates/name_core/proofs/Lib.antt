@@ -1,0 +1,13 @@
+pub mod Firsts
+pub mod Numbering
+pub mod Walking
+pub mod WalkLaws
+pub mod BodyInduction
+pub mod Branchings
+pub mod Nones
+pub mod LimitFacts
+pub mod NameFacts
+pub mod Having
+pub mod Noding
+pub mod Loops
+pub mod ShapeFaults

@@ -1,0 +1,7 @@
+use Rattle.std.proofs.Common.{◌≡◌, drop}
+use Rattle.sort_core.specs.Relations.{sort_of_pair}
+use Rattle.sort_core.proofs.grammar_sorts.nonterminal_type.Given as goal
+
+-- the nonterminal is among what is left
+abbrev pub invariant-loop-pair : goal.invariant-loop-pair
+invariant-loop-pair l = sort_of_pair (drop l.pair-index l.pairs) l.name ≡ sort_of_pair l.pairs l.name

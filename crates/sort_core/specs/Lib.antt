@@ -1,0 +1,5 @@
+pub mod Opens
+pub mod Branches
+pub mod Sorts
+pub mod Relations
+pub mod Errors
