@@ -1,8 +1,7 @@
 -- What stands of a command that passes no limit.
-use Rattle.std.proofs.Common.{◌≡◌, ◌<◌, ◌≤◌, ◌+◌, ℕ, Bool, true, false, nat_le, if◌then◌else◌, max, Option, None, is_some, unwrap_or, drop, List, [], ◌∷◌, ◌++◌, map, length, All, refl, sym, ap, subst, arith, ◌∙◌}
-use Rattle.std.proofs.lemmas.Bool.Decides.{nat_tests}
+use Rattle.std.proofs.Common.{◌≡◌, ◌<◌, ◌≤◌, ◌+◌, ℕ, Bool, true, false, if◌then◌else◌, max, None, is_some, unwrap_or, drop, List, [], ◌∷◌, ◌++◌, map, length, All, refl, sym, ap, subst, arith, ◌∙◌}
 use Rattle.std.proofs.lemmas.List.{length-append}
-use Rattle.std.proofs.lemmas.List.Elements.{All-nil, All-cons, All-head, All-tail, All-append, All-map, All-weaker}
+use Rattle.std.proofs.lemmas.List.Elements.{All-nil, All-cons, All-head, All-tail, All-append}
 use Rattle.std.specs.List.{flat_map}
 use Rattle.sexpr_core.specs.declared.form.Atom.{Atom}
 use Rattle.sexpr_core.specs.declared.form.Nest.{Nest}
@@ -11,7 +10,6 @@ use Rattle.sexpr_core.specs.declared.form.Sexpr.TheOpen.{Sexpr-F}
 use Rattle.sexpr_core.specs.Access.{items_in, place_of, symbol_in, symbol_of}
 use Rattle.sig_core.specs.Lists.{greatest}
 use Rattle.problem_core.specs.Soundness.{IsShort}
-use Rattle.syntax_core.specs.declared.fault.Fault.{Fault}
 use Rattle.syntax_core.specs.declared.syntax.Application.{Application}
 use Rattle.syntax_core.specs.declared.syntax.Body.{Body}
 use Rattle.syntax_core.specs.declared.syntax.Body as body
@@ -26,7 +24,7 @@ use Rattle.syntax_core.specs.Syntax.{atom_of, item_of, items_at, name_of, nonter
 use Rattle.name_core.specs.Bodies.{Branch, Site, branches_of, branches_within, rule_count, sites_of, width}
 use Rattle.name_core.specs.Faults.{first, found_from, past}
 use Rattle.name_core.specs.Limits.{call_limits, constructor_limits, declaration_limits, functions_limits, long_name, pair_limits, pairs_limits, production_limits, type_limits, types_limits, wanted_limits}
-use Rattle.name_core.specs.Walks.{bodies_limits, body_limits, counted, rules_of_body, rules_of_site, site_limits, sites_limits, total}
+use Rattle.name_core.specs.Walks.{bodies_limits, body_limits, rules_of_body, rules_of_site, site_limits, sites_limits, total}
 use Rattle.name_core.proofs.BodyInduction.{by_bodies}
 use Rattle.name_core.proofs.Branchings.{branches-Fork, branches-Leaf, width-Fork, width-Leaf}
 use Rattle.name_core.proofs.Nones.{all_none, counted_all, counted_few, none_append, none_long, numbered_all, numbered_few, past_none}

@@ -1,5 +1,5 @@
 -- What stands of a command without a wrong name.
-use Rattle.std.proofs.Common.{◌≡◌, ◌<◌, ℕ, Bool, true, false, not, ◌||◌, Option, Some, None, is_some, is_none, if◌then◌else◌, List, [], ◌∷◌, ◌++◌, drop, map, All, refl, sym, ap, subst, ◌∙◌, append_assoc, arith}
+use Rattle.std.proofs.Common.{◌≡◌, ◌<◌, ℕ, Bool, true, false, not, ◌||◌, Some, None, is_some, is_none, if◌then◌else◌, List, [], ◌∷◌, ◌++◌, drop, map, All, refl, sym, ap, subst, ◌∙◌, append_assoc, arith}
 use Rattle.std.proofs.lemmas.List.{map-append}
 use Rattle.std.proofs.lemmas.List.Elements.{All-nil, All-cons, All-head, All-tail, All-append}
 use Rattle.std.proofs.lemmas.Grind.{flat_map-append}
@@ -26,7 +26,7 @@ use Rattle.syntax_core.specs.Shapes.{refusal}
 use Rattle.syntax_core.specs.Syntax.{atom_of, item_of, items_at, name_of, nonterminals_of, others_of, type_names}
 use Rattle.name_core.specs.Bodies.{Branch, bound, bound_after, branches_of, branches_within, leaf, nodes_of, nodes_within}
 use Rattle.name_core.specs.Faults.{bad_if, first, found, found_after}
-use Rattle.name_core.specs.Names.{are_listed, argument_names, attribute_names, attributes_of, call_names, case_names, constructors_in, declaration_names, definition_names, expression_names, function_names, functions_names, group_names, groups_of, has, is_sort, names_in, node_names, nonterminal_names, parameter_names, plain_pairs, production_names, sort_names, taken_name, term_pairs, texts, types_names, unfit_name, unhad_name, unknown_name, wanted_names}
+use Rattle.name_core.specs.Names.{are_listed, argument_names, attribute_names, attributes_of, call_names, case_names, constructors_in, declaration_names, definition_names, expression_names, function_names, functions_names, group_names, groups_of, has, names_in, node_names, nonterminal_names, parameter_names, plain_pairs, production_names, sort_names, taken_name, term_pairs, texts, types_names, unfit_name, unhad_name, unknown_name, wanted_names}
 use Rattle.name_core.proofs.BodyInduction.{by_bodies}
 use Rattle.name_core.proofs.Branchings.{branches-Fork, branches-Leaf}
 use Rattle.name_core.proofs.Having.{has-append, place-none}

@@ -4,7 +4,7 @@ use Rattle.std.proofs.lemmas.List.{length-append}
 use Rattle.std.proofs.lemmas.List.Elements.{All-head, All-tail}
 use Rattle.std.proofs.lemmas.List.Folds.{flat_map-map}
 use Rattle.std.proofs.lemmas.List.Sums.{sum_by-cons}
-use Rattle.std.specs.List.{flat_map, sum_by}
+use Rattle.std.specs.List.{flat_map}
 use Rattle.std.specs.Option.{option_or}
 use Rattle.syntax_core.specs.declared.fault.Fault.{Fault}
 use Rattle.syntax_core.specs.declared.syntax.Body.{Body, the_lemmas}
@@ -20,7 +20,7 @@ use Rattle.name_core.specs.Walks.{bodies_limits, body_limits, counted, rules_of_
 use Rattle.name_core.proofs.BodyInduction.{by_bodies}
 use Rattle.name_core.proofs.Branchings.{branches-Leaf, branches-Fork}
 use Rattle.name_core.proofs.Firsts.{first-append}
-use Rattle.name_core.proofs.Numbering.{append_nil, counted-alike, counted-append, found_after-counted, total-append}
+use Rattle.name_core.proofs.Numbering.{append_nil, counted-append, found_after-counted, total-append}
 use Rattle.name_core.proofs.Walking.{limits-Fork, limits-Leaf, rules-Fork, rules-Leaf}
 
 pub nodes-Leaf : (l : Leaf) (around : List Pair) → nodes_within (body.Leaf l) around ≡ leaf around l ∷ []

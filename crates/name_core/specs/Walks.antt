@@ -1,5 +1,5 @@
 -- The limits of bodies, cases and functions, where the rules are numbered from one to the next.
-use Rattle.std.specs.Prelude.{ℕ, ◌+◌, List, [], ◌∷◌, ◌++◌, map, length}
+use Rattle.std.specs.Prelude.{ℕ, ◌+◌, List, [], ◌∷◌, ◌++◌, length}
 use Rattle.std.specs.List.{flat_map}
 use Rattle.syntax_core.specs.declared.fault.Fault.{Fault}
 use Rattle.syntax_core.specs.declared.syntax.Body.{Body}

@@ -1,12 +1,12 @@
 -- What follows where lists of faults are empty.
-use Rattle.std.proofs.Common.{◌≡◌, ℕ, Bool, true, false, Option, Some, None, List, [], ◌∷◌, ◌++◌, refl, sym, ap, ◌∙◌, arith}
+use Rattle.std.proofs.Common.{◌≡◌, ℕ, Bool, true, false, Option, Some, None, List, [], ◌∷◌, ◌++◌, refl, sym, ◌∙◌, arith}
 use Rattle.std.specs.Prelude.{not, All}
 use Rattle.std.specs.List.{flat_map}
 use Rattle.std.specs.Option.{option_or}
 use Rattle.std.proofs.lemmas.List.Elements.{All-nil, All-cons}
 use Rattle.syntax_core.specs.declared.fault.Fault.{Fault}
-use Rattle.name_core.specs.Faults.{bad_if, first, found_from}
-use Rattle.name_core.proofs.Firsts.{first-append, first-flat_map, first-found_from}
+use Rattle.name_core.specs.Faults.{bad_if, first}
+use Rattle.name_core.proofs.Firsts.{first-append, first-flat_map}
 
 pub none_both : (a b : Option Fault) → option_or a b ≡ None → (a ≡ None) × (b ≡ None)
 none_both None b e = (refl, e)
