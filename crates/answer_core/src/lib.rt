@@ -1,0 +1,6 @@
+//! Answers: their text.
+#![tactic(auto)]
+
+mod printing;
+
+pub use printing::print_answer;
