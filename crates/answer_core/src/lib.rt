@@ -1,8 +1,9 @@
-//! Answers: their text and its reading.
+//! Answers: their text, its reading, and their check.
 #![tactic(auto)]
 
 mod adding;
 mod answer;
+mod checking;
 mod draft;
 mod forms;
 mod kinds;
@@ -11,7 +12,9 @@ mod numbers;
 mod printing;
 mod reading;
 mod shapes;
+mod subterms;
 
 pub use answer::{Answer, AnswerError, AnswerFault, Verdict};
+pub use checking::check;
 pub use printing::print_answer;
 pub use reading::read_answer;
