@@ -7,6 +7,7 @@ mod checking;
 mod draft;
 mod forms;
 mod kinds;
+mod laws;
 mod names;
 mod numbers;
 mod printing;
@@ -16,5 +17,6 @@ mod subterms;
 
 pub use answer::{Answer, AnswerError, AnswerFault, Verdict};
 pub use checking::check;
+pub use laws::one_verdict;
 pub use printing::print_answer;
 pub use reading::read_answer;

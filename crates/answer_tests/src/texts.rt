@@ -1,0 +1,40 @@
+use crate::problems::problem;
+use answer_core::{AnswerError, AnswerFault, Verdict, check, read_answer};
+use problem_core::Problem;
+use sexpr_core::read_whole;
+use std::alloc::{AllocError, Global};
+
+/// What is said of an answer text.
+#[derive(Clone, Copy, Debug, PartialEq, Eq)]
+pub(crate) enum Said {
+    Bad(AnswerFault),
+    Judged(Verdict),
+    Nothing,
+}
+
+fn judged(alloc: Global, problem: &Problem, text: &[u8], height: u32) -> Result<Said, AllocError> {
+    if text.len() > 1000 {
+        return Ok(Said::Nothing);
+    }
+    let Some(forms) = read_whole(alloc, text)? else {
+        return Ok(Said::Nothing);
+    };
+    match read_answer(alloc, problem, &forms, text.len() as u32) {
+        Ok(answer) => Ok(Said::Judged(check(problem, &answer, height))),
+        Err(AnswerError::Fault(fault)) => Ok(Said::Bad(fault)),
+        Err(AnswerError::Memory) => Err(AllocError),
+    }
+}
+
+/// What is said of the text where the term is to give each of these values, by derivations up to this height.
+pub(crate) fn said_of(
+    alloc: Global,
+    values: &[u8],
+    text: &str,
+    height: u32,
+) -> Result<Said, AllocError> {
+    match problem(alloc, values) {
+        Some(problem) => judged(alloc, &problem, text.as_bytes(), height),
+        None => Err(AllocError),
+    }
+}
