@@ -1,5 +1,5 @@
 -- An answer has one verdict.
-use Rattle.std.proofs.Common.{◌≡◌, ◌<◌, ◌≤◌, ℕ, Some, List, take, slice_get, ◌⊎◌, inl, inr, refl, sym, ap, ap₂, subst, ◌∙◌, arith}
+use Rattle.std.proofs.Common.{◌≡◌, ◌<◌, ◌≤◌, ℕ, List, take, ◌⊎◌, inl, inr, refl, sym, ap, ap₂, subst, ◌∙◌, arith}
 use Rattle.std.proofs.lemmas.Bool.{cases_order}
 use Rattle.std.proofs.lemmas.Option.{same_Some}
 use Rattle.sig_core.specs.Signatures.{Declarations}
@@ -11,7 +11,7 @@ use Rattle.deriv_core.specs.Steps.{IsFirstBad, IsFirstFault, TreeStep, reason_of
 use Rattle.answer_core.specs.declared.answer.Verdict.{Verdict}
 use Rattle.answer_core.specs.declared.answer.Verdict.TheVariants as verdict
 use Rattle.answer_core.specs.Readings.{TreeAnswer}
-use Rattle.answer_core.specs.Verdicts.{Test, nodes_listed, size_right, in_language, steps_valid, constraints_met, number_of, FailsFirst, IsFirstUnmet, IsVerdict, Meets, OneVerdict, Passes}
+use Rattle.answer_core.specs.Verdicts.{Test, nodes_listed, size_right, in_language, steps_valid, constraints_met, number_of, IsFirstUnmet, IsVerdict, OneVerdict, Passes}
 
 -- two numbers of which neither is less
 neither_less : (m n : ℕ) → (m < n → ⊥) → (n < m → ⊥) → m ≡ n

@@ -1,19 +1,15 @@
 -- The example is sound.
-use Rattle.std.proofs.Common.{◌≡◌, ◌<◌, ◌≤◌, ◌+◌, ◌^◌, ◌&&◌, ℕ, zero, suc, true, false, Some, None, option_map, List, [], ◌∷◌, ◌++◌, map, length, get_or, slice_get, All, refl, sym, ap, subst, ◌∙◌, arith, rules, lit<, lit≤}
+use Rattle.std.proofs.Common.{◌≡◌, ◌<◌, ◌≤◌, ◌^◌, ◌&&◌, ℕ, zero, suc, true, false, Some, None, option_map, List, [], ◌∷◌, length, slice_get, All, refl, sym, ap, subst, ◌∙◌, arith, rules, lit<, lit≤}
 use Rattle.std.specs.Prelude.{codes, pos, nat_lt}
 use Rattle.std.specs.List.{list_all}
 use Rattle.std.proofs.lemmas.List.Elements.{All-cons, All-nil}
 use Rattle.sig_core.specs.declared.ids.ConId.{ConId}
-use Rattle.sig_core.specs.declared.signature.Relation.{Relation}
-use Rattle.sig_core.specs.declared.value.Value.{Value}
 use Rattle.sig_core.specs.declared.value.Value.TheVariants as value
 use Rattle.sig_core.specs.Names.{is_reserved, AreDistinct}
-use Rattle.sig_core.specs.Values.{is_value}
-use Rattle.sig_core.specs.WellFormed.{IsDeclared, IsWellFormed, names_of_params}
+use Rattle.sig_core.specs.WellFormed.{IsWellFormed, names_of_params}
 use Rattle.sig_core.proofs.NameLemmas.{AreDistinct-push}
 use Rattle.expr_core.specs.declared.expr.Expr.{the_lemmas}
 use Rattle.expr_core.specs.declared.expr.Expr.TheVariants.{Lit}
-use Rattle.rule_core.specs.declared.rule.Atom.TheVariants.{Fill}
 use Rattle.rule_core.specs.declared.rule.Rule.{Rule}
 use Rattle.rule_core.specs.Flow.{flow_fault}
 use Rattle.rule_core.specs.Rulebooks.{IsRuleOf}
@@ -117,9 +113,12 @@ nonterminal_sound = record {
 
 grammar_sound : KeepsLimits (whole example the_type) → IsSoundGrammar example (whole example the_type)
 grammar_sound limits = record {
-  fine = record { size = lit< tt; known = All-cons (λ n. All (λ p. All (IsKnown the_grammar) p.args) n.productions) the_nonterminal []
-      (three (λ p. All (IsKnown the_grammar) p.args) (All-nil (IsKnown the_grammar)) (All-nil (IsKnown the_grammar)) both_known)
-      (All-nil (λ n. All (λ p. All (IsKnown the_grammar) p.args) n.productions)) };
+  fine = record {
+    size = lit< tt;
+    known = All-cons (λ n. All (λ p. All (IsKnown the_grammar) p.args) n.productions) the_nonterminal []
+        (three (λ p. All (IsKnown the_grammar) p.args) (All-nil (IsKnown the_grammar)) (All-nil (IsKnown the_grammar)) both_known)
+        (All-nil (λ n. All (λ p. All (IsKnown the_grammar) p.args) n.productions));
+  };
   limits = limits;
   has_start = lit< tt;
   nonterminals = All-cons (IsSoundNonterminal example the_grammar) the_nonterminal [] nonterminal_sound (All-nil (IsSoundNonterminal example the_grammar));

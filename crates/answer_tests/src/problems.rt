@@ -124,12 +124,5 @@ pub fn problem(alloc: Global, values: &[u8]) -> Option<Problem> {
     };
     let infos = Infos::new(alloc);
     let wanted = Bytes::new(alloc);
-    Some(Problem::new(
-        infos,
-        signature,
-        rules,
-        grammar,
-        wanted,
-        constraints,
-    ))
+    Some(Problem::new(infos, signature, rules, grammar, wanted, constraints))
 }

@@ -1,4 +1,4 @@
-use Rattle.std.proofs.Common.{◌≡◌, ◌<◌, ℕ, refl, arith}
+use Rattle.std.proofs.Common.{◌<◌, ℕ, refl, arith}
 use Rattle.sig_core.specs.WellFormed.{IsRelation}
 use Rattle.answer_tests.specs.Examples.{gives, the_type}
 use Rattle.answer_tests.proofs.Sound.{names_differ, names_free}

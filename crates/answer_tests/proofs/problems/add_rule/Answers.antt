@@ -1,4 +1,4 @@
-use Rattle.std.proofs.Common.{◌≡◌, All, ap, ap₂, sym, subst, ◌∙◌}
+use Rattle.std.proofs.Common.{All, ap, sym, subst, ◌∙◌}
 use Rattle.std.proofs.lemmas.List.Elements.{All-push}
 use Rattle.rule_core.specs.Flow.{flow_fault}
 use Rattle.problem_core.specs.Soundness.{IsSoundRule}

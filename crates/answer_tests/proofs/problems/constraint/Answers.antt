@@ -1,4 +1,4 @@
-use Rattle.std.proofs.Common.{◌≡◌, ◌<◌, ◌^◌, sym, subst, arith}
+use Rattle.std.proofs.Common.{sym, subst, arith}
 use Rattle.problem_core.specs.Soundness.{IsSoundConstraint}
 use Rattle.answer_tests.specs.Examples.{example, the_type}
 use Rattle.answer_tests.proofs.Sound.{constraint_sound}

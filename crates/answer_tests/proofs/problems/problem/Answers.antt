@@ -1,4 +1,4 @@
-use Rattle.std.proofs.Common.{◌≡◌, ◌≤◌, [], length, All, sym, subst, arith}
+use Rattle.std.proofs.Common.{◌≤◌, length, subst, arith}
 use Rattle.sig_core.specs.WellFormed.{IsWellFormed}
 use Rattle.grammar_core.specs.Limits.{KeepsLimits}
 use Rattle.grammar_core.specs.Whole.{whole}
