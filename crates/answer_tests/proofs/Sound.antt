@@ -5,8 +5,8 @@ use Rattle.std.specs.List.{list_all}
 use Rattle.std.proofs.lemmas.List.Elements.{All-cons, All-nil}
 use Rattle.sig_core.specs.declared.ids.ConId.{ConId}
 use Rattle.sig_core.specs.declared.value.Value.TheVariants as value
-use Rattle.sig_core.specs.Names.{is_reserved, AreDistinct}
-use Rattle.sig_core.specs.WellFormed.{IsWellFormed, names_of_params}
+use Rattle.sig_core.specs.Names.{is_reserved, place_of, AreDistinct}
+use Rattle.sig_core.specs.WellFormed.{IsWellFormed, constructor_names, names_of_params}
 use Rattle.sig_core.proofs.NameLemmas.{AreDistinct-push}
 use Rattle.expr_core.specs.declared.expr.Expr.{the_lemmas}
 use Rattle.expr_core.specs.declared.expr.Expr.TheVariants.{Lit}
@@ -21,7 +21,7 @@ use Rattle.grammar_core.specs.Limits.{KeepsLimits}
 use Rattle.grammar_core.specs.Refusals.{makes}
 use Rattle.grammar_core.specs.Whole.{whole}
 use Rattle.problem_core.specs.declared.parts.Constraint.{Constraint}
-use Rattle.problem_core.specs.Soundness.{IsShort, IsSound, IsSoundConstraint, IsSoundGrammar, IsSoundNonterminal, IsSoundRule, is_clean, is_clean_atom, is_sort_name}
+use Rattle.problem_core.specs.Soundness.{IsShort, IsSound, IsSoundConstraint, IsSoundGrammar, IsSoundNonterminal, IsSoundRule, wanted_type, is_clean, is_clean_atom, is_sort_name}
 use Rattle.problem_core.specs.Views.{parts}
 use Rattle.answer_tests.specs.Examples.{example, gives, gives_value, the_type, wanted_value}
 
@@ -111,7 +111,7 @@ nonterminal_sound = record {
   makes = three (λ p. makes the_grammar the_type p.args (slice_get example.constructors p.con.0) ≡ true) refl refl refl;
 }
 
-grammar_sound : KeepsLimits (whole example the_type) → IsSoundGrammar example (whole example the_type)
+pub grammar_sound : KeepsLimits (whole example the_type) → IsSoundGrammar example (whole example the_type)
 grammar_sound limits = record {
   fine = record {
     size = lit< tt;
@@ -126,9 +126,36 @@ grammar_sound limits = record {
   new = λ differs. absurd (differs refl);
 }
 
-pub example_sound : (rules : List Rule) (constraints : List Constraint) → IsWellFormed example → All (IsSoundRule example) rules → length rules ≤ 3 → KeepsLimits (whole example the_type)
-    → All (IsSoundConstraint example the_type) constraints → length constraints ≤ 9 → IsSound (parts [] example rules (whole example the_type) [] constraints)
-example_sound rules constraints fine sound few limits all count = record {
+-- the first constant alone
+abbrev narrow_nonterminal : Nonterminal
+narrow_nonterminal = record { name = codes "A"; owner = the_type; productions = production 0 [] ∷ [] }
+
+abbrev pub narrow_grammar : List Nonterminal
+narrow_grammar = narrow_nonterminal ∷ []
+
+alone_in : (P : Production → Type 0) → P (production 0 []) → All P (production 0 [] ∷ [])
+alone_in P p = All-cons P (production 0 []) [] p (All-nil P)
+
+pub narrow_sound : KeepsLimits narrow_grammar → IsSoundGrammar example narrow_grammar
+narrow_sound limits = record {
+  fine = record {
+    size = lit< tt;
+    known = All-cons (λ n. All (λ p. All (IsKnown narrow_grammar) p.args) n.productions) narrow_nonterminal []
+        (alone_in (λ p. All (IsKnown narrow_grammar) p.args) (All-nil (IsKnown narrow_grammar)))
+        (All-nil (λ n. All (λ p. All (IsKnown narrow_grammar) p.args) n.productions));
+  };
+  limits = limits;
+  has_start = lit< tt;
+  nonterminals = All-cons (IsSoundNonterminal example narrow_grammar) narrow_nonterminal []
+      (record { owner = lit< tt; makes = alone_in (λ p. makes narrow_grammar the_type p.args (slice_get example.constructors p.con.0) ≡ true) refl })
+      (All-nil (IsSoundNonterminal example narrow_grammar));
+  short = All-cons IsShort (codes "A") [] (lit≤ tt) (All-nil IsShort);
+  new = λ _. All-cons (λ name. place_of (constructor_names example.constructors) name ≡ None) (codes "A") [] refl (All-nil (λ name. place_of (constructor_names example.constructors) name ≡ None));
+}
+
+pub example_sound : (rules : List Rule) (grammar : List Nonterminal) (constraints : List Constraint) → IsWellFormed example → All (IsSoundRule example) rules → length rules ≤ 3 → IsSoundGrammar example grammar → wanted_type grammar ≡ the_type
+    → All (IsSoundConstraint example the_type) constraints → length constraints ≤ 9 → IsSound (parts [] example rules grammar [] constraints)
+example_sound rules grammar constraints fine sound few fits wanted all count = record {
   signature = fine;
   names = record {
     types = All-cons IsShort (codes "E") [] (lit≤ tt) (All-nil IsShort);
@@ -142,8 +169,8 @@ example_sound rules constraints fine sound few limits all count = record {
   };
   few_rules = omega (arith, few);
   rules = sound;
-  grammar = grammar_sound limits;
+  grammar = fits;
   wanted = lit≤ tt;
   few_constraints = omega (arith, count);
-  constraints = all;
+  constraints = subst (λ type. All (IsSoundConstraint example type) constraints) (sym wanted) all;
 }

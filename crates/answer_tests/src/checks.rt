@@ -1,6 +1,6 @@
 //! The verdict on answers, and answers that are printed as they were read.
 use crate::problems::problem;
-use crate::texts::{Said, said_of};
+use crate::texts::{Said, said_of, said_of_narrow};
 use answer_core::{Verdict, print_answer, read_answer};
 use deriv_core::BadStep;
 use problem_core::Problem;
@@ -81,6 +81,16 @@ fn other_spellings(rt: HostRuntime) -> Result<(), Fail> {
 fn a_step_above_the_height(rt: HostRuntime) -> Result<(), Fail> {
     let found = said_of(rt.alloc(), &[1], FOUND, 0)?;
     assert_eq!(rt; found, Said::Judged(bad_step(0, 6)));
+    Ok(())
+}
+
+#[test]
+fn a_term_outside_the_grammar(rt: HostRuntime) -> Result<(), Fail> {
+    let found = said_of_narrow(rt.alloc(), FOUND)?;
+    assert_eq!(rt; found, Said::Judged(Verdict::Valid));
+    let other = "(answer 1)(term $c)(size 1)(node 0 $c)(step 0 S 0 1 (1) ())(derived 0 0)";
+    let found = said_of_narrow(rt.alloc(), other)?;
+    assert_eq!(rt; found, Said::Judged(Verdict::Grammar));
     Ok(())
 }
 

@@ -10,4 +10,4 @@ mod reading;
 #[cfg(test)]
 mod texts;
 
-pub use problems::problem;
+pub use problems::{narrow_problem, problem};

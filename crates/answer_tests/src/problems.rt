@@ -1,13 +1,11 @@
 ghost use Rattle.std.specs.Prelude.{◌≡◌, ◌<◌, ◌≤◌, ◌+◌, IfOk, OnOk, length, All};
-ghost use Rattle.grammar_core.specs.Limits.{KeepsLimits};
-ghost use Rattle.grammar_core.specs.Whole.{whole};
-ghost use Rattle.problem_core.specs.Soundness.{IsSoundConstraint, IsSoundRule};
+ghost use Rattle.problem_core.specs.Soundness.{IsSoundConstraint, IsSoundGrammar, IsSoundRule, wanted_type};
 ghost use Rattle.rule_core.specs.Rulebooks.{IsRuleOf};
 ghost use Rattle.answer_tests.specs.Examples.{example, gives_value, the_type, wanted_value};
 
 use crate::language::{TERM, example};
 use expr_core::Expr;
-use grammar_core::Grammar;
+use grammar_core::{Grammar, GrammarError};
 use problem_core::{Constraint, Constraints, Infos, Problem};
 use rule_core::{AddError, Atom, Atoms, Names, Rule, Rulebook, Vars};
 use sig_core::{Bytes, ConId, RelId, Signature, Value, Values};
@@ -98,25 +96,39 @@ fn constraints(alloc: Global, values: &[u8]) -> Result<Constraints, AllocError>
 
 fn whole(alloc: Global, signature: &Signature) -> Result<Grammar, AllocError>
     requires { signature.now ≡ example }
-    ensures whole { IfOk result (λ grammar. grammar ≡ whole example the_type) }
-    ensures limits { IfOk result KeepsLimits }
+    ensures sound { IfOk result (IsSoundGrammar example) }
+    ensures wanted { IfOk result (λ grammar. wanted_type grammar ≡ the_type) }
 {
-    Grammar::all(alloc, signature, TERM)
+    let grammar = Grammar::all(alloc, signature, TERM)?;
+    Ok(grammar)
 }
 
-/// A term is wanted that gives each of these values. None where memory is refused, or there are more than nine.
-pub fn problem(alloc: Global, values: &[u8]) -> Option<Problem> {
-    if values.len() > 9 {
-        return None;
-    }
-    let Ok(signature) = example(alloc) else {
-        return None;
-    };
+/// The grammar of the first constant alone.
+fn narrow(alloc: Global, signature: &Signature) -> Result<Grammar, GrammarError>
+    requires { signature.now ≡ example }
+    ensures sound { IfOk result (IsSoundGrammar example) }
+    ensures wanted { IfOk result (λ grammar. wanted_type grammar ≡ the_type) }
+{
+    let mut grammar = Grammar::new(alloc);
+    let start = grammar.add_nonterminal(b"A", TERM)?;
+    grammar.add_production(signature, start, ConId(0), &[])?;
+    Ok(grammar)
+}
+
+/// A term of the grammar is wanted that gives each of these values. None where memory is refused.
+fn problem_over(
+    alloc: Global,
+    signature: Signature,
+    grammar: Grammar,
+    values: &[u8],
+) -> Option<Problem>
+    requires signature { signature ≡ example }
+    requires grammar { IsSoundGrammar example grammar }
+    requires wanted { wanted_type grammar ≡ the_type }
+    requires few { length values.now ≤ 9 }
+{
     let _types = signature.types();
     let Ok(rules) = rules(alloc, &signature) else {
-        return None;
-    };
-    let Ok(grammar) = whole(alloc, &signature) else {
         return None;
     };
     let Ok(constraints) = constraints(alloc, values) else {
@@ -125,4 +137,29 @@ pub fn problem(alloc: Global, values: &[u8]) -> Option<Problem> {
     let infos = Infos::new(alloc);
     let wanted = Bytes::new(alloc);
     Some(Problem::new(infos, signature, rules, grammar, wanted, constraints))
+}
+
+/// Any term is wanted that gives each of these values. None where memory is refused, or there are more than nine.
+pub fn problem(alloc: Global, values: &[u8]) -> Option<Problem> {
+    if values.len() > 9 {
+        return None;
+    }
+    let Ok(signature) = example(alloc) else {
+        return None;
+    };
+    let Ok(grammar) = whole(alloc, &signature) else {
+        return None;
+    };
+    problem_over(alloc, signature, grammar, values)
+}
+
+/// The first constant is wanted, and it is to give 1. None where memory is refused.
+pub fn narrow_problem(alloc: Global) -> Option<Problem> {
+    let Ok(signature) = example(alloc) else {
+        return None;
+    };
+    let Ok(grammar) = narrow(alloc, &signature) else {
+        return None;
+    };
+    problem_over(alloc, signature, grammar, &[1])
 }

@@ -1,4 +1,4 @@
-use crate::problems::problem;
+use crate::problems::{narrow_problem, problem};
 use answer_core::{AnswerError, AnswerFault, Verdict, check, read_answer};
 use problem_core::Problem;
 use sexpr_core::read_whole;
@@ -35,6 +35,14 @@ pub(crate) fn said_of(
 ) -> Result<Said, AllocError> {
     match problem(alloc, values) {
         Some(problem) => judged(alloc, &problem, text.as_bytes(), height),
+        None => Err(AllocError),
+    }
+}
+
+/// What is said of the text where the first constant is wanted, and it is to give 1.
+pub(crate) fn said_of_narrow(alloc: Global, text: &str) -> Result<Said, AllocError> {
+    match narrow_problem(alloc) {
+        Some(problem) => judged(alloc, &problem, text.as_bytes(), 1),
         None => Err(AllocError),
     }
 }
