@@ -127,6 +127,7 @@ fn problem_over(
     requires wanted { wanted_type grammar ≡ the_type }
     requires few { length values.now ≤ 9 }
 {
+    // Its contract says that the signature is well-formed.
     let _types = signature.types();
     let Ok(rules) = rules(alloc, &signature) else {
         return None;

@@ -1,6 +1,5 @@
 use Rattle.std.proofs.Common.{◌≡◌, [], length, ap, ap₂, sym, subst, ◌∙◌}
 use Rattle.std.specs.Prelude.{codes}
-use Rattle.grammar_core.specs.declared.ids.NtId.{NtId}
 use Rattle.grammar_core.specs.Limits.{KeepsLimits}
 use Rattle.grammar_core.specs.Grammars.{start}
 use Rattle.grammar_core.specs.Refusals.{with_nonterminal, with_production}
