@@ -1,0 +1,4 @@
+pub mod Answered
+pub mod Marked
+pub mod Placed
+pub mod Tabled

@@ -1,0 +1,3 @@
+pub mod LensLaws
+pub mod Marking
+pub mod Tables
