@@ -1,9 +1,8 @@
 -- The rules of the shifts are rules of their signature.
-use Rattle.std.proofs.Common.{◌≡◌, ◌<◌, ◌^◌, ℕ, true, false, not, ◌&&◌, List, [], ◌∷◌, map, All, refl, sym, ap, ap₂, ◌∙◌, subst, arith, rules}
+use Rattle.std.proofs.Common.{◌≡◌, ◌<◌, ◌^◌, ℕ, true, false, not, ◌&&◌, List, [], ◌∷◌, map, refl, sym, ap, ap₂, ◌∙◌, subst, arith, rules}
 use Rattle.std.specs.List.{list_all}
 use Rattle.std.proofs.lemmas.List.Elements.{All-cons, All-nil}
 use Rattle.sig_core.specs.declared.value.Value.{Value}
-use Rattle.sig_core.specs.declared.ids.ConId.{ConId}
 use Rattle.expr_core.specs.declared.expr.Op.{Op}
 use Rattle.expr_core.specs.declared.expr.Op.TheVariants as op
 use Rattle.expr_core.specs.declared.expr.Expr.{Expr, the_lemmas}
@@ -11,7 +10,6 @@ use Rattle.expr_core.specs.declared.expr.Expr.TheVariants.{Slot, Lit, Apply}
 use Rattle.expr_core.specs.declared.expr.Expr.TheFolds.{fold-Expr}
 use Rattle.expr_core.proofs.Equations.{count-Apply, count-Lit, count-Slot}
 use Rattle.rule_core.specs.declared.rule.Atom.TheVariants as atom
-use Rattle.rule_core.specs.declared.rule.Rule.{Rule}
 use Rattle.rule_core.specs.Rulebooks.{HasSmallParts, IsRuleOf, IsSmall}
 use Rattle.eval_core.specs.ShiftExample.{call_at_next, int, shift_rule, shifts, x_rule, zero_rule}
 use Rattle.problem_core.specs.Soundness.{Signs, is_clean, is_clean_atom, is_natural, negates_natural, signs_step}

@@ -3,12 +3,11 @@ use Rattle.std.proofs.Common.{◌≡◌, ◌<◌, ℕ, true, false, None, List, 
 use Rattle.std.specs.Prelude.{codes}
 use Rattle.std.proofs.lemmas.List.Elements.{All-cons, All-from_recursion, All-head, All-nil, All-tail}
 use Rattle.sig_core.specs.declared.signature.Relation.{Relation}
-use Rattle.sig_core.specs.Names.{is_reserved, place_of}
+use Rattle.sig_core.specs.Names.{is_reserved}
 use Rattle.sig_core.specs.WellFormed.{IsRelation, IsWellFormed, constructor_names, names_of_params}
 use Rattle.rule_core.specs.declared.rule.Rule.{Rule}
 use Rattle.rule_core.specs.Flow.{flow_fault}
 use Rattle.grammar_core.specs.declared.production.Nonterminal.{Nonterminal}
-use Rattle.grammar_core.specs.declared.production.Production.{Production}
 use Rattle.grammar_core.specs.Grammars.{productions_of, start}
 use Rattle.grammar_core.specs.Limits.{KeepsLimits}
 use Rattle.grammar_core.specs.Refusals.{makes}
@@ -19,7 +18,7 @@ use Rattle.problem_core.specs.declared.parts.Info.{Info}
 use Rattle.problem_core.specs.Problems.{Parts}
 use Rattle.problem_core.specs.Views.{parts}
 use Rattle.problem_core.specs.Soundness.{HasFreeNames, HasShortNames, IsShort, IsSound, IsSoundConstraint, IsSoundGrammar, IsSoundNonterminal, IsSoundRule, is_sort_name}
-use Rattle.eval_core.specs.ShiftExample.{expression, gives, int, shift_con, shift_problem, shift_rule, shifts, x_con, x_rule, zero_con, zero_rule}
+use Rattle.eval_core.specs.ShiftExample.{expression, gives, int, shift_problem, shift_rule, shifts, x_rule, zero_rule}
 use Rattle.marks_tests.specs.Stages.{gives_relation}
 use Rattle.marks_tests.proofs.Lists.{distinct_by_test, free_by_test, short_by_test}
 use Rattle.marks_tests.proofs.Fitting.{shift_clean, shift_fits, x_clean, x_fits, zero_clean, zero_fits}

@@ -1,8 +1,7 @@
 -- Terms of the shifts.
-use Rattle.std.proofs.Common.{◌≡◌, ◌<◌, ◌+◌, ◌^◌, ℕ, zero, suc, Some, [], ◌∷◌, refl, ap, ◌∙◌, arith}
+use Rattle.std.proofs.Common.{◌≡◌, ◌<◌, ℕ, zero, suc, [], ◌∷◌, refl, arith}
 use Rattle.std.proofs.lemmas.List.Sums.{sum_by-cons}
 use Rattle.sig_core.specs.declared.ids.ConId.{ConId}
-use Rattle.sig_core.specs.declared.signature.Constructor.{Constructor}
 use Rattle.term_core.specs.Terms.{node, size}
 use Rattle.term_core.specs.Typings.{HasType, IsTermOf}
 use Rattle.term_core.proofs.Order.{size-node}

@@ -1,4 +1,4 @@
-use Rattle.std.proofs.Common.{◌<◌, arith}
+use Rattle.std.proofs.Common.{arith}
 use Rattle.marks_tests.proofs.Sound.{gives_fits}
 use Rattle.marks_tests.proofs.language.shifts.Goals as goal
 

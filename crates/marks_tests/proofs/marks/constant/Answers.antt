@@ -1,4 +1,4 @@
-use Rattle.std.proofs.Common.{◌<◌, ◌^◌, arith}
+use Rattle.std.proofs.Common.{arith}
 use Rattle.eval_core.specs.ShiftExample.{shifts}
 use Rattle.marks_tests.proofs.Typed.{constant_is_term, constant_small}
 use Rattle.marks_tests.proofs.marks.constant.Goals as goal

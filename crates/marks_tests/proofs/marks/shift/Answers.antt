@@ -1,5 +1,4 @@
-use Rattle.std.proofs.Common.{◌≡◌, ◌<◌, ◌+◌, ◌^◌, [], ◌∷◌, sym, ap, subst, ◌∙◌, arith}
-use Rattle.term_core.specs.Banks.{tree_of}
+use Rattle.std.proofs.Common.{◌<◌, ◌^◌, [], ◌∷◌, sym, subst, arith}
 use Rattle.term_core.specs.Terms.{node, size}
 use Rattle.term_core.specs.Typings.{IsTermOf}
 use Rattle.eval_core.specs.ShiftExample.{shift_con, shifts}
