@@ -1,9 +1,8 @@
 -- The search among leaders finds the answer.
 use Rattle.std.proofs.Common.{◌≡◌, ◌≤◌, ◌↔◌, inl, inr, ℕ, Option, Some, None, sym, ap, ◌∙◌, subst, arith}
-use Rattle.std.specs.declared.cmp.Ordering.TheVariants.{Less}
 use Rattle.std.proofs.lemmas.Option.{same_Some}
 use Rattle.term_core.specs.declared.tree.Tree.{Tree}
-use Rattle.term_core.specs.Terms.{size, term_cmp}
+use Rattle.term_core.specs.Terms.{size}
 use Rattle.term_core.proofs.Typing.{type_is_owner}
 use Rattle.grammar_core.specs.Grammars.{start}
 use Rattle.grammar_core.specs.Languages.{IsGrammarOf}

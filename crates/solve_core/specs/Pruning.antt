@@ -7,6 +7,7 @@ use Rattle.term_core.specs.Terms.{term_cmp}
 use Rattle.grammar_core.specs.Grammars.{Lang, nonterminal_at, start}
 use Rattle.grammar_core.specs.Languages.{IsGrammarOf}
 use Rattle.problem_core.specs.Problems.{Parts, Solves, IsSolution, IsFirst, IsAnswer}
+use Rattle.problem_core.specs.Soundness.{IsSound}
 use Rattle.class_core.specs.Leaders.{IsLeader, LeadersAmongCandidates}
 use Rattle.class_core.specs.Looks.{OneLooks}
 use Rattle.eval_core.specs.Alikeness.{AreAlike, AllFlow, IsConstraintOn}
@@ -47,6 +48,10 @@ pub record IsFit (problem : Parts) : Type 0 where
   pub flows : AllFlow problem
   pub grammar : IsGrammarOf problem.signature problem.grammar
   pub constraints : All (IsConstraintOn problem.signature (wanted_type problem)) problem.constraints
+
+-- the parts of a sound problem are fit
+abbrev pub SoundIsFit : Type 0
+SoundIsFit = (problem : Parts) → IsSound problem → IsFit problem
 
 -- the answer within a height is the first solution among the leaders by alikeness up to the height
 abbrev pub AlikeLeadersAnswer : Type 0

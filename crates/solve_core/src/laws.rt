@@ -1,6 +1,6 @@
 ghost use Rattle.grammar_core.specs.Languages.{IsGrammarOf};
 ghost use Rattle.problem_core.specs.Problems.{Parts};
-ghost use Rattle.solve_core.specs.Pruning.{AlikeLeadersAmongCandidates, AlikeLeadersAnswer, FirstIsLeader, IsFit, LeadersAnswer, OneAlikeLooks};
+ghost use Rattle.solve_core.specs.Pruning.{AlikeLeadersAmongCandidates, AlikeLeadersAnswer, FirstIsLeader, IsFit, LeadersAnswer, OneAlikeLooks, SoundIsFit};
 ghost use Rattle.solve_core.specs.Searching.{FoundIsFirst, NoneFoundIsNone};
 ghost use Rattle.eval_core.specs.ShiftExample.{shift_problem};
 
@@ -22,10 +22,16 @@ pub fn alike_leaders()
     ensures looks { OneAlikeLooks }
 {}
 
-/// A search through the leaders of the start by size finds the first solution among them, or that none is one.
-pub fn search_laws()
-    ensures found { FoundIsFirst }
-    ensures none { NoneFoundIsNone }
+/// For each lens: of a search by size through the leaders of the start, the first that solves, of the least size that has
+/// one, is the first solution among them, and where no size within the bound has one, none of them is a solution.
+pub fn search_laws<L: Lens>(_lens: &L)
+    ensures found { (problem : Parts) → FoundIsFirst problem (L.same_mark _lens.now) }
+    ensures none { (problem : Parts) → NoneFoundIsNone problem (L.same_mark _lens.now) }
+{}
+
+/// The parts of a problem are fit.
+pub fn sound_is_fit()
+    ensures { SoundIsFit }
 {}
 
 /// An example: the problem of shifts is fit.
