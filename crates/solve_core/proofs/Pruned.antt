@@ -68,7 +68,7 @@ module _ (problem : Parts) (h n : ℕ) (same : Tree → Tree → Type 0) (alike 
 
 module _ (problem : Parts) (fit : IsFit problem) where
   -- terms of the start that are alike solve alike
-  alike_solve : (h : ℕ) → SolvesAlike problem h (AreAlike problem h)
+  pub alike_solve : (h : ℕ) → SolvesAlike problem h (AreAlike problem h)
   alike_solve h = λ t u member other alike.
       (let wanted = wanted_type problem in
       let owner = type_is_owner problem.signature wanted t (language_is_typed problem.signature problem.grammar fit.grammar t start member) in

@@ -5,7 +5,7 @@ ghost use Rattle.problem_core.specs.Problems.{IsAnswer};
 ghost use Rattle.class_core.specs.Looks.{IsLooks, LooksAtEach};
 ghost use Rattle.class_core.specs.Standing.{grown_of, lens_of};
 ghost use Rattle.solve_core.specs.Verifying.{VerifiesIn};
-ghost use Rattle.solve_core.specs.Pruning.{IsLeadingAnswer, SolvesAlike};
+ghost use Rattle.solve_core.specs.Pruning.{IsFit, IsLeadingAnswer, SolvesAlike};
 ghost use Rattle.solve_core.specs.Searching.{AreGrown, IsFoundOfSize, last_size};
 ghost use Rattle.solve_core.specs.Works.{no_work, term_found};
 
@@ -20,8 +20,8 @@ use std::alloc::{AllocError, Global};
 use term_core::{Bank, TermId};
 
 /// The first solution among the leaders of the start that the lens tells apart, of size at most `size`, and none exactly
-/// where none of them is one. Where terms with equal marks solve alike, it is the problem's answer. After want of memory
-/// the work can only be dropped.
+/// where none of them is one. Where terms with equal marks solve alike, as is to be shown of fit problems alone, it is the
+/// problem's answer. After want of memory the work can only be dropped.
 pub fn search<L: Lens + Drop>(
     alloc: Global,
     problem: &Problem,
@@ -40,7 +40,7 @@ pub fn search<L: Lens + Drop>(
     ensures live { IfOk result (λ found. IfSome found (IsLive work.new.bank)) }
     ensures leading { IfOk result (λ found.
         IsLeadingAnswer problem.now height size (L.same_mark lens) (term_found work.new.bank found)) }
-    ensures answer { SolvesAlike problem.now height (L.same_mark lens)
+    ensures answer { (IsFit problem.now → SolvesAlike problem.now height (L.same_mark lens))
         → IfOk result (λ found. IsAnswer problem.now height size (term_found work.new.bank found)) }
 
     // One look for each candidate of each size up to the one that is found, or up to the bound.

@@ -2,7 +2,7 @@ use Rattle.std.proofs.Common.{◌≡◌, [], refl, sym, ap, ◌∙◌, subst, ar
 use Rattle.solve_core.specs.Pruning.{IsLeadingAnswer}
 use Rattle.solve_core.specs.Works.{Working, term_found}
 use Rattle.solve_core.proofs.Pruned.{leaders_answer}
-use Rattle.solve_core.proofs.Sound.{grammar_fits}
+use Rattle.solve_core.proofs.Sound.{sound_is_fit}
 use Rattle.solve_core.proofs.by_size.search.Goals as goal
 
 pub find-requires-clause-grown : goal.find-requires-clause-grown
@@ -39,5 +39,5 @@ returns-clause-answer g c =
     let found = term_found c.find.new.bank c.in_ok-found.found in
     let at_height = subst (λ h. IsLeadingAnswer problem h n (g.L.Lens.same_mark c.new-classes.result.lens) found) (c.in_ok-verifier.ensures.verifies []).height_is c.in_ok-found.ensures.leading in
     let leading = subst (λ l. IsLeadingAnswer problem height n (g.L.Lens.same_mark l) found) c.new-classes.ensures.lens at_height in
-    let fits = grammar_fits problem c.in_ok-verifier.ensures.sound in
-    λ alike. (leaders_answer problem height n same alike fits (g.met.L.Lens.equals c.args.lens problem.signature c.requires.signature) found).0 leading
+    let fit = sound_is_fit problem c.in_ok-verifier.ensures.sound in
+    λ alike. (leaders_answer problem height n same (alike fit) fit.grammar (g.met.L.Lens.equals c.args.lens problem.signature c.requires.signature) found).0 leading
