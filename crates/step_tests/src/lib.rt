@@ -1,0 +1,11 @@
+//! Tests of the check of steps.
+#![tactic(auto)]
+
+#[cfg(test)]
+mod checking;
+#[cfg(test)]
+mod language;
+#[cfg(test)]
+mod rules;
+#[cfg(test)]
+mod steps;
