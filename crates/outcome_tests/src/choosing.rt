@@ -1,0 +1,142 @@
+//! The greater of two numbers.
+ghost use Rattle.std.specs.Prelude.{◌≡◌, ◌≤◌, ◌+◌, length, All, IfOk, OnOk};
+ghost use Rattle.eval_core.specs.Evaluations.{IsAccepted};
+ghost use Rattle.rule_core.specs.Rulebooks.{HasSmallParts};
+ghost use Rattle.outcome_tests.specs.Rules.{IsShort};
+
+use crate::evaluating::{Given, Question, add, expect, found};
+use crate::language::{B, E, Shape, language};
+use crate::nodes::Node;
+use crate::relations::add_binary;
+use crate::rules::{call_child, choice, fill, giving, over_two, put, rule, variables};
+use expr_core::{Expr, Op};
+use rule_core::{AddError, Atoms, Rule, Rulebook};
+use sig_core::{ConId, RelId, SigError, Signature, Sort, Value};
+use std::alloc::{AllocError, Global};
+use std::process::Abort;
+
+const E_SEM: RelId = RelId(0);
+
+const B_SEM: RelId = RelId(1);
+
+const CONSTRUCTORS: [Shape; 4] = [
+    (b"$x", E, &[]),
+    (b"$y", E, &[]),
+    (b"$ite", E, &[B, E, E]),
+    (b"$<", B, &[E, E]),
+];
+
+const ITE: ConId = ConId(2);
+
+const LESS: ConId = ConId(3);
+
+/// The nodes of `($ite ($< $x $y) $y $x)`.
+const GREATER: [Node; 4] = [(0, &[]), (1, &[]), (3, &[0, 1]), (2, &[2, 1, 0])];
+
+/// `(exists ((r1 Int) (r2 Int)) (and (E.Sem et1 x y r1) (E.Sem et2 x y r2) (= r (< r1 r2))))`
+fn less(alloc: Global) -> Result<Rule, AllocError>
+    ensures { IfOk result IsShort }
+{
+    let mut atoms = Atoms::new(alloc);
+    put(&mut atoms, call_child(alloc, E_SEM, 0, 3)?)?;
+    put(&mut atoms, call_child(alloc, E_SEM, 1, 4)?)?;
+    put(&mut atoms, fill(2, over_two(alloc, Op::Less, 3, 4)?))?;
+    let more = variables(alloc, &[Sort::Int, Sort::Int])?;
+    Ok(rule(alloc, B_SEM, LESS, more, atoms))
+}
+
+/// The calls `(B.Sem bt1 x y b)`, `(E.Sem et1 x y r1)` and `(E.Sem et2 x y r2)`.
+fn put_calls(alloc: Global, atoms: &mut Atoms) -> Result<(), AllocError>
+    requires few { length atoms.old ≤ 5 }
+    requires small { All HasSmallParts atoms.old }
+    ensures count { length atoms.new ≤ length atoms.old + 3 }
+    ensures all { All HasSmallParts atoms.new }
+{
+    put(atoms, call_child(alloc, B_SEM, 0, 3)?)?;
+    put(atoms, call_child(alloc, E_SEM, 1, 4)?)?;
+    put(atoms, call_child(alloc, E_SEM, 2, 5)?)
+}
+
+/// `(exists ((b Bool) (r1 Int) (r2 Int)) (and .. (= r (ite b r1 r2))))`
+fn choose(alloc: Global) -> Result<Rule, AllocError>
+    ensures { IfOk result IsShort }
+{
+    let mut atoms = Atoms::new(alloc);
+    put_calls(alloc, &mut atoms)?;
+    put(&mut atoms, fill(2, choice(alloc, 3, 4, 5)?))?;
+    let more = variables(alloc, &[Sort::Bool, Sort::Int, Sort::Int])?;
+    Ok(rule(alloc, E_SEM, ITE, more, atoms))
+}
+
+/// The rules of `$x` and `$y`.
+fn inputs(rt: &impl Abort, alloc: Global, signature: &Signature) -> Result<Rulebook, AddError>
+    ensures short { IfOk result (λ book. length book ≡ 2) }
+    ensures accepted { IfOk result (All (IsAccepted signature.now)) }
+{
+    let mut book = Rulebook::new(alloc);
+    add(
+        rt,
+        &mut book,
+        signature,
+        giving(alloc, E_SEM, ConId(0), 2, Expr::Slot(0))?,
+    )?;
+    add(
+        rt,
+        &mut book,
+        signature,
+        giving(alloc, E_SEM, ConId(1), 2, Expr::Slot(1))?,
+    )?;
+    Ok(book)
+}
+
+fn book(rt: &impl Abort, alloc: Global, signature: &Signature) -> Result<Rulebook, AddError>
+    ensures { IfOk result (All (IsAccepted signature.now)) }
+{
+    let mut book = inputs(rt, alloc, signature)?;
+    add(rt, &mut book, signature, less(alloc)?)?;
+    add(rt, &mut book, signature, choose(alloc)?)?;
+    Ok(book)
+}
+
+fn signature(rt: &impl Abort, alloc: Global) -> Result<Signature, SigError> {
+    let mut signature = language(rt, alloc, &CONSTRUCTORS)?;
+    add_binary(rt, alloc, &mut signature, b"E.Sem", E, Sort::Int)?;
+    add_binary(rt, alloc, &mut signature, b"B.Sem", B, Sort::Bool)?;
+    Ok(signature)
+}
+
+fn greater_by(
+    rt: &impl Abort,
+    alloc: Global,
+    signature: &Signature,
+    inputs: &[Value],
+    height: u32,
+) -> Result<Given, AddError> {
+    let book = book(rt, alloc, signature)?;
+    let question = Question {
+        relation: E_SEM,
+        inputs,
+        height,
+    };
+    Ok(found(rt, alloc, signature, &book, &GREATER, &question)?)
+}
+
+/// What the term gives at these inputs.
+fn greater(
+    rt: &impl Abort,
+    alloc: Global,
+    inputs: &[Value],
+    height: u32,
+) -> Result<Given, AddError> {
+    let Ok(signature) = signature(rt, alloc) else {
+        return Err(AddError::Memory);
+    };
+    greater_by(rt, alloc, &signature, inputs, height)
+}
+
+#[test]
+fn the_greater_is_chosen(rt: HostRuntime) {
+    let inputs = [Value::Int(4), Value::Int(2)];
+    expect(&rt, greater(&rt, rt.alloc(), &inputs, 3), &[(4, 3)]);
+    expect(&rt, greater(&rt, rt.alloc(), &inputs, 2), &[]);
+}

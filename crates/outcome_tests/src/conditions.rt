@@ -1,0 +1,86 @@
+//! Conditions of calls, seen to hold when a test runs.
+ghost use Rattle.std.specs.Prelude.{◌≡◌, Some, map, length, IsTrue};
+ghost use Rattle.sig_core.specs.Signatures.{inputs_of, kinds_of, plain_sorts, term_type};
+ghost use Rattle.sig_core.specs.Values.{sort_of};
+ghost use Rattle.rule_core.specs.Rulebooks.{IsRuleOf};
+ghost use Rattle.eval_core.specs.Outcomes.{AreInputs};
+ghost use Rattle.outcome_tests.specs.Rules.{IsShort};
+
+use rule_core::Rule;
+use sig_core::{Kind, Param, RelId, Signature, Sort, TypeId, Value};
+use std::process::Abort;
+
+/// The number of parameters that aren't terms.
+fn count_plain(params: &[Param]) -> usize
+    ensures { result ≡ length (plain_sorts (map (λ p. p.kind) params.now)) }
+{
+    let mut count = 0;
+    for param in params {
+        match param.kind {
+            Kind::Term(_) => {}
+            Kind::Input(_) | Kind::Output(_) => count += 1,
+        }
+    }
+    count
+}
+
+/// Whether the first term among the parameters is of this type.
+fn is_on(params: &[Param], owner: TypeId) -> bool
+    ensures { IsTrue result → term_type (map (λ p. p.kind) params.now) ≡ Some owner }
+{
+    let [param, params @ ..] = params else {
+        return false;
+    };
+    match param.kind {
+        Kind::Term(ty) => ty.0 == owner.0,
+        Kind::Input(_) | Kind::Output(_) => is_on(params, owner),
+    }
+}
+
+fn has_sort(value: Value, sort: Sort) -> bool
+    ensures { IsTrue result → sort_of value ≡ sort }
+{
+    match (value, sort) {
+        (Value::Int(_), Sort::Int) | (Value::Bool(_), Sort::Bool) => true,
+        (Value::Int(_), Sort::Bool) | (Value::Bool(_), Sort::Int) => false,
+    }
+}
+
+/// Whether the values are as many as the inputs, and of their sorts.
+fn are_inputs(params: &[Param], inputs: &[Value]) -> bool
+    ensures { IsTrue result → map sort_of inputs.now ≡ inputs_of (map (λ p. p.kind) params.now) (plain_sorts (map (λ p. p.kind) params.now)) }
+{
+    let [param, params @ ..] = params else {
+        return inputs.is_empty();
+    };
+    match param.kind {
+        Kind::Term(_) | Kind::Output(_) => are_inputs(params, inputs),
+        Kind::Input(sort) => {
+            let [input, inputs @ ..] = inputs else {
+                return false;
+            };
+            has_sort(*input, sort) && are_inputs(params, inputs)
+        }
+    }
+}
+
+/// Ends the test unless the rule is one of the signature's.
+pub fn expect_rule(rt: &impl Abort, signature: &Signature, rule: &Rule)
+    requires { IsShort rule.now }
+    ensures { IsRuleOf signature.now rule.now }
+{
+    assert!(rt; rule.relation.0 < signature.relations());
+    assert!(rt; rule.con.0 < signature.constructors());
+    let params = signature.relation(rule.relation).params.as_slice();
+    assert!(rt; rule.more.len() <= 32);
+    assert!(rt; count_plain(params) <= 32);
+    assert!(rt; is_on(params, signature.constructor(rule.con).owner));
+}
+
+/// Ends the test unless the values are inputs of the relation.
+pub fn expect_inputs(rt: &impl Abort, signature: &Signature, relation: RelId, inputs: &[Value])
+    ensures { AreInputs signature.now relation inputs.now }
+{
+    assert!(rt; relation.0 < signature.relations());
+    assert!(rt; are_inputs(signature.relation(relation).params.as_slice(), inputs));
+}

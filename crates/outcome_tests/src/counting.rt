@@ -1,0 +1,87 @@
+//! At x the relation gives 0 where x is at most 0, and else 2 more than at x - 1.
+ghost use Rattle.std.specs.Prelude.{All, IfOk};
+ghost use Rattle.eval_core.specs.Evaluations.{IsAccepted};
+ghost use Rattle.outcome_tests.specs.Rules.{IsShort};
+
+use crate::evaluating::{Given, Question, add, expect, found};
+use crate::language::{E, Shape, language};
+use crate::nodes::LEAF;
+use crate::relations::add_unary;
+use crate::rules::{call_itself, fill, number, over_number, put, rule, test, variables};
+use expr_core::Op;
+use rule_core::{AddError, Atoms, Rule, Rulebook};
+use sig_core::{ConId, RelId, SigError, Signature, Sort, Value};
+use std::alloc::{AllocError, Global};
+use std::process::Abort;
+
+const S: RelId = RelId(0);
+
+const CONSTRUCTORS: [Shape; 1] = [(b"$loop", E, &[])];
+
+/// `(and (<= x 0) (= r 0))`
+fn last(alloc: Global) -> Result<Rule, AllocError>
+    ensures { IfOk result IsShort }
+{
+    let mut atoms = Atoms::new(alloc);
+    put(&mut atoms, test(alloc, Op::AtMost, 0)?)?;
+    put(&mut atoms, fill(1, number(0)))?;
+    Ok(rule(alloc, S, ConId(0), variables(alloc, &[])?, atoms))
+}
+
+/// `(exists ((q Int)) (and (> x 0) (S t (- x 1) q) (= r (+ q 2))))`
+fn next(alloc: Global) -> Result<Rule, AllocError>
+    ensures { IfOk result IsShort }
+{
+    let mut atoms = Atoms::new(alloc);
+    put(&mut atoms, test(alloc, Op::Greater, 0)?)?;
+    let before = over_number(alloc, Op::Minus, 0, 1)?;
+    put(&mut atoms, call_itself(alloc, S, before, 2)?)?;
+    put(&mut atoms, fill(1, over_number(alloc, Op::Add, 2, 2)?))?;
+    Ok(rule(alloc, S, ConId(0), variables(alloc, &[Sort::Int])?, atoms))
+}
+
+fn book(rt: &impl Abort, alloc: Global, signature: &Signature) -> Result<Rulebook, AddError>
+    ensures { IfOk result (All (IsAccepted signature.now)) }
+{
+    let mut book = Rulebook::new(alloc);
+    add(rt, &mut book, signature, last(alloc)?)?;
+    add(rt, &mut book, signature, next(alloc)?)?;
+    Ok(book)
+}
+
+fn signature(rt: &impl Abort, alloc: Global) -> Result<Signature, SigError> {
+    let mut signature = language(rt, alloc, &CONSTRUCTORS)?;
+    add_unary(rt, alloc, &mut signature, b"S", E)?;
+    Ok(signature)
+}
+
+fn at_by(
+    rt: &impl Abort,
+    alloc: Global,
+    signature: &Signature,
+    inputs: &[Value],
+    height: u32,
+) -> Result<Given, AddError> {
+    let book = book(rt, alloc, signature)?;
+    let question = Question {
+        relation: S,
+        inputs,
+        height,
+    };
+    Ok(found(rt, alloc, signature, &book, &LEAF, &question)?)
+}
+
+/// What the relation gives at x.
+fn at(rt: &impl Abort, alloc: Global, x: i128, height: u32) -> Result<Given, AddError> {
+    let Ok(signature) = signature(rt, alloc) else {
+        return Err(AddError::Memory);
+    };
+    at_by(rt, alloc, &signature, &[Value::Int(x)], height)
+}
+
+#[test]
+fn each_round_is_one_higher(rt: HostRuntime) {
+    expect(&rt, at(&rt, rt.alloc(), 3, 4), &[(6, 4)]);
+    expect(&rt, at(&rt, rt.alloc(), 3, 3), &[]);
+    expect(&rt, at(&rt, rt.alloc(), -5, 1), &[(0, 1)]);
+}

@@ -1,0 +1,80 @@
+//! Two rules of one constructor, each with an output of its own.
+ghost use Rattle.std.specs.Prelude.{All, IfOk};
+ghost use Rattle.eval_core.specs.Evaluations.{IsAccepted};
+
+use crate::evaluating::{Given, Question, add, expect, found};
+use crate::language::{E, Shape, language};
+use crate::nodes::LEAF;
+use crate::relations::add_constant;
+use crate::rules::{giving, number};
+use rule_core::{AddError, Rulebook};
+use sig_core::{ConId, RelId, SigError, Signature};
+use std::alloc::Global;
+use std::process::Abort;
+
+const S: RelId = RelId(0);
+
+const CONSTRUCTORS: [Shape; 1] = [(b"$c", E, &[])];
+
+/// `($c (= r first)) ($c (= r second))`
+fn book(
+    rt: &impl Abort,
+    alloc: Global,
+    signature: &Signature,
+    first: i128,
+    second: i128,
+) -> Result<Rulebook, AddError>
+    ensures { IfOk result (All (IsAccepted signature.now)) }
+{
+    let mut book = Rulebook::new(alloc);
+    add(
+        rt,
+        &mut book,
+        signature,
+        giving(alloc, S, ConId(0), 0, number(first))?,
+    )?;
+    add(
+        rt,
+        &mut book,
+        signature,
+        giving(alloc, S, ConId(0), 0, number(second))?,
+    )?;
+    Ok(book)
+}
+
+fn signature(rt: &impl Abort, alloc: Global) -> Result<Signature, SigError> {
+    let mut signature = language(rt, alloc, &CONSTRUCTORS)?;
+    add_constant(rt, alloc, &mut signature, b"S", E)?;
+    Ok(signature)
+}
+
+fn given_by(
+    rt: &impl Abort,
+    alloc: Global,
+    signature: &Signature,
+    first: i128,
+    second: i128,
+) -> Result<Given, AddError> {
+    let book = book(rt, alloc, signature, first, second)?;
+    let question = Question {
+        relation: S,
+        inputs: &[],
+        height: 1,
+    };
+    Ok(found(rt, alloc, signature, &book, &LEAF, &question)?)
+}
+
+/// What two rules with these outputs give.
+fn given(rt: &impl Abort, alloc: Global, first: i128, second: i128) -> Result<Given, AddError> {
+    let Ok(signature) = signature(rt, alloc) else {
+        return Err(AddError::Memory);
+    };
+    given_by(rt, alloc, &signature, first, second)
+}
+
+#[test]
+fn both_rules_are_run(rt: HostRuntime) {
+    expect(&rt, given(&rt, rt.alloc(), 0, 1), &[(0, 1), (1, 1)]);
+    expect(&rt, given(&rt, rt.alloc(), 1, 0), &[(0, 1), (1, 1)]);
+    expect(&rt, given(&rt, rt.alloc(), 1, 1), &[(1, 1)]);
+}

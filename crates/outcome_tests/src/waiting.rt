@@ -1,0 +1,82 @@
+//! A term that asks another relation of itself.
+ghost use Rattle.std.specs.Prelude.{All, IfOk};
+ghost use Rattle.eval_core.specs.Evaluations.{IsAccepted};
+ghost use Rattle.outcome_tests.specs.Rules.{IsShort};
+
+use crate::evaluating::{Given, Question, add, expect, found};
+use crate::language::{E, Shape, language};
+use crate::nodes::LEAF;
+use crate::relations::add_unary;
+use crate::rules::{call_itself, fill, giving, put, rule, variables};
+use expr_core::Expr;
+use rule_core::{AddError, Atoms, Rule, Rulebook};
+use sig_core::{ConId, RelId, SigError, Signature, Sort, Value};
+use std::alloc::{AllocError, Global};
+use std::process::Abort;
+
+const SEM: RelId = RelId(0);
+
+const AUX: RelId = RelId(1);
+
+const CONSTRUCTORS: [Shape; 3] = [(b"$slow", E, &[]), (b"$fast", E, &[]), (b"$wrap", E, &[E])];
+
+/// `(exists ((q Int)) (and (Aux t x q) (= r q)))`
+fn slow(alloc: Global) -> Result<Rule, AllocError>
+    ensures { IfOk result IsShort }
+{
+    let mut atoms = Atoms::new(alloc);
+    put(&mut atoms, call_itself(alloc, AUX, Expr::Slot(0), 2)?)?;
+    put(&mut atoms, fill(1, Expr::Slot(2)))?;
+    Ok(rule(alloc, SEM, ConId(0), variables(alloc, &[Sort::Int])?, atoms))
+}
+
+fn book(rt: &impl Abort, alloc: Global, signature: &Signature) -> Result<Rulebook, AddError>
+    ensures { IfOk result (All (IsAccepted signature.now)) }
+{
+    let mut book = Rulebook::new(alloc);
+    add(rt, &mut book, signature, slow(alloc)?)?;
+    add(
+        rt,
+        &mut book,
+        signature,
+        giving(alloc, AUX, ConId(0), 1, Expr::Slot(0))?,
+    )?;
+    Ok(book)
+}
+
+fn signature(rt: &impl Abort, alloc: Global) -> Result<Signature, SigError> {
+    let mut signature = language(rt, alloc, &CONSTRUCTORS)?;
+    add_unary(rt, alloc, &mut signature, b"Sem", E)?;
+    add_unary(rt, alloc, &mut signature, b"Aux", E)?;
+    Ok(signature)
+}
+
+fn at_by(
+    rt: &impl Abort,
+    alloc: Global,
+    signature: &Signature,
+    inputs: &[Value],
+    height: u32,
+) -> Result<Given, AddError> {
+    let book = book(rt, alloc, signature)?;
+    let question = Question {
+        relation: SEM,
+        inputs,
+        height,
+    };
+    Ok(found(rt, alloc, signature, &book, &LEAF, &question)?)
+}
+
+/// What `$slow` gives at x.
+fn at(rt: &impl Abort, alloc: Global, x: i128, height: u32) -> Result<Given, AddError> {
+    let Ok(signature) = signature(rt, alloc) else {
+        return Err(AddError::Memory);
+    };
+    at_by(rt, alloc, &signature, &[Value::Int(x)], height)
+}
+
+#[test]
+fn a_call_is_one_lower(rt: HostRuntime) {
+    expect(&rt, at(&rt, rt.alloc(), 0, 1), &[]);
+    expect(&rt, at(&rt, rt.alloc(), 0, 2), &[(0, 2)]);
+}
