@@ -1,0 +1,13 @@
+//! Tests of lists by size and of leaders, through two lenses.
+#![tactic(auto)]
+
+#[cfg(test)]
+mod growing;
+#[cfg(test)]
+mod languages;
+#[cfg(test)]
+mod leaders;
+#[cfg(test)]
+mod lists;
+#[cfg(test)]
+mod parity;
