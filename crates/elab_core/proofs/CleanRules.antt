@@ -1,20 +1,16 @@
 -- The atoms of rules are clean: no minus stands in them over a single literal of 0 or more, since that is read as a literal.
-use Rattle.std.proofs.Common.{◌≡◌, ℕ, ◌+◌, Bool, true, false, Option, Some, None, List, [], ◌∷◌, ◌++◌, map, length, refl, sym, ap, ap₂, subst, ◌∙◌, rules, arith}
-use Rattle.std.specs.Prelude.{pos, negsuc, not, ◌&&◌, ◌||◌, nat_eq, unwrap_or, All, if◌then◌else◌, codes}
-use Rattle.std.specs.List.{flat_map, list_all}
+use Rattle.std.proofs.Common.{◌≡◌, ℕ, ◌+◌, Bool, true, false, Option, Some, None, List, [], ◌∷◌, map, refl, sym, ap, ap₂, subst, ◌∙◌, rules}
+use Rattle.std.specs.Prelude.{pos, negsuc, not, ◌&&◌, ◌||◌, unwrap_or, All, if◌then◌else◌}
+use Rattle.std.specs.List.{list_all}
 use Rattle.std.specs.Option.{option_map_or}
-use Rattle.std.proofs.lemmas.List.Elements.{All-nil, All-cons, All-head, All-tail, All-weaker, All-map}
+use Rattle.std.proofs.lemmas.List.Elements.{All-nil, All-cons, All-head, All-tail, All-map}
 use Rattle.std.proofs.lemmas.Option.{same_Some}
 use Rattle.sig_core.specs.declared.ids.RelId.{RelId}
-use Rattle.sig_core.specs.declared.signature.Constructor.{Constructor}
-use Rattle.sig_core.specs.declared.signature.Kind.{Kind}
-use Rattle.sig_core.specs.declared.signature.Kind.TheVariants.{Term, Input, Output}
 use Rattle.sig_core.specs.declared.value.Sort.{Sort}
-use Rattle.sig_core.specs.declared.value.Sort.TheVariants as sort
 use Rattle.sig_core.specs.declared.value.Value.{Value}
 use Rattle.sig_core.specs.declared.value.Value.TheVariants as value
 use Rattle.sig_core.specs.Names.{place_of}
-use Rattle.sig_core.specs.Signatures.{Declarations, kinds_of}
+use Rattle.sig_core.specs.Signatures.{Declarations}
 use Rattle.sexpr_core.specs.declared.form.Atom as sexpr
 use Rattle.expr_core.specs.declared.expr.Expr.{Expr, out-Expr}
 use Rattle.expr_core.specs.declared.expr.Expr as expr
@@ -22,20 +18,13 @@ use Rattle.expr_core.specs.declared.expr.Expr.{the_lemmas as expr_lemmas}
 use Rattle.expr_core.specs.declared.expr.Expr.TheFolds.{fold-Expr}
 use Rattle.expr_core.specs.declared.expr.Op.{Op}
 use Rattle.expr_core.specs.declared.expr.Op.TheVariants as op
-use Rattle.problem_core.specs.Soundness.{Signs, is_clean, is_clean_atom, is_conjunction, is_natural, negates_natural, signs_step}
-use Rattle.rule_core.specs.declared.rule.Atom.{Atom}
-use Rattle.rule_core.specs.declared.rule.Atom.TheVariants as atom
+use Rattle.problem_core.specs.Soundness.{Signs, is_clean, is_natural, negates_natural, signs_step}
 use Rattle.rule_core.specs.declared.rule.Who.{Who}
 use Rattle.rule_core.specs.declared.rule.Who.TheVariants.{Own, Child}
-use Rattle.rule_core.proofs.Determined.{and_both}
-use Rattle.syntax_core.specs.declared.fault.Fault.{Fault}
 use Rattle.syntax_core.specs.declared.literal.Literal.{Literal}
 use Rattle.syntax_core.specs.declared.literal.Literal.TheVariants.{Number, Truth}
-use Rattle.syntax_core.specs.declared.syntax.Application.{Application}
-use Rattle.syntax_core.specs.declared.syntax.Negative.{Negative}
 use Rattle.syntax_core.specs.declared.syntax.Exp.{Exp}
-use Rattle.syntax_core.specs.declared.syntax.Exp as exp
-use Rattle.syntax_core.specs.Literals.{is_out_of_range, negative, positive}
+use Rattle.syntax_core.specs.Literals.{negative, positive}
 use Rattle.syntax_core.specs.Roles.{operator_named}
 use Rattle.sort_core.specs.declared.open.OpenExp.{OpenExp}
 use Rattle.sort_core.specs.declared.open.OpenNode.{OpenNode, out-OpenNode}
@@ -46,13 +35,13 @@ use Rattle.sort_core.specs.declared.open.OpenNode.TheVariants.{rolls-Slot, rolls
 use Rattle.sort_core.specs.declared.variables.Variables.{Variables}
 use Rattle.name_core.specs.Faults.{bad_if, first, found_from}
 use Rattle.name_core.specs.Names.{has}
-use Rattle.sort_core.specs.Opens.{application_node, literal_node, negated_in, opened, operation_node, relation_named, symbol_node}
+use Rattle.sort_core.specs.Opens.{application_node, literal_node, negated_in, opened, operation_node, relation_named}
 use Rattle.elab_core.specs.Rules.{expr_of, expr_of_node, value_of_literal}
-use Rattle.sort_core.specs.Sorts.{Survey, faults_as, operand_faults, operand_faults_at, same_stated, survey, survey_of_node, wanted_sort}
+use Rattle.sort_core.specs.Sorts.{Survey, operand_faults_at, same_stated, survey, survey_of_node, wanted_sort}
 use Rattle.elab_core.proofs.Counts.{opened-Apply, opened-Negative, opened-Numeral, opened-Symbol}
 use Rattle.elab_core.proofs.ExpInduction.{by_arguments}
 use Rattle.elab_core.proofs.Exprs.{expr-Slot, expr-Term, expr-Literal, expr-Apply, expr-Call}
-use Rattle.sort_core.proofs.Faultless.{none_both, none_parts, not_bad}
+use Rattle.sort_core.proofs.Faultless.{none_both, none_parts}
 use Rattle.name_core.proofs.Firsts.{first-found_from}
 use Rattle.sort_core.proofs.Surveys.{survey-Apply, survey-Literal}
 

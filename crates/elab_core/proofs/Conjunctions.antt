@@ -1,5 +1,5 @@
 -- An expression has no `and` at its head, where it isn't read from an application of `and`.
-use Rattle.std.proofs.Common.{◌≡◌, ℕ, Bool, true, false, Option, Some, None, List, [], ◌∷◌, map, refl, sym, ap, ◌∙◌, rules}
+use Rattle.std.proofs.Common.{◌≡◌, ℕ, Bool, true, false, Option, Some, None, List, [], ◌∷◌, map, refl, ap, ◌∙◌, rules}
 use Rattle.std.specs.Prelude.{◌≢◌, if◌then◌else◌, unwrap_or}
 use Rattle.std.specs.Option.{option_map_or}
 use Rattle.sig_core.specs.declared.ids.RelId.{RelId}

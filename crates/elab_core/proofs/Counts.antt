@@ -1,5 +1,5 @@
 -- An expression that rules are made of has no more nodes than the form that it is read from.
-use Rattle.std.proofs.Common.{◌≡◌, ℕ, ◌+◌, ◌≤◌, Bool, true, false, Option, Some, None, List, [], ◌∷◌, map, refl, sym, ap, ◌∙◌, rules, arith}
+use Rattle.std.proofs.Common.{◌≡◌, ℕ, ◌+◌, ◌≤◌, Bool, true, false, Option, Some, None, List, [], ◌∷◌, map, refl, ap, ◌∙◌, rules, arith}
 use Rattle.std.specs.Prelude.{pos, negsuc, sum, unwrap_or, All, if◌then◌else◌}
 use Rattle.std.specs.Option.{option_map_or}
 use Rattle.std.proofs.lemmas.List.Sums.{sum_by-cons}
@@ -33,7 +33,7 @@ use Rattle.sort_core.specs.declared.open.OpenNode as node
 use Rattle.sort_core.specs.declared.open.OpenNode.TheOpen.{OpenNode-F}
 use Rattle.sort_core.specs.declared.variables.Variables.{Variables}
 use Rattle.name_core.specs.Names.{has}
-use Rattle.sort_core.specs.Opens.{application_node, literal_node, negated_in, opened, opened_application, operation_node, relation_named, symbol_node}
+use Rattle.sort_core.specs.Opens.{application_node, literal_node, negated_in, opened, operation_node, relation_named, symbol_node}
 use Rattle.elab_core.specs.Rules.{expr_of, expr_of_node}
 use Rattle.elab_core.proofs.ExpInduction.{by_arguments}
 use Rattle.elab_core.proofs.Exprs.{expr-Slot, expr-Term, expr-Literal, expr-Apply, expr-Call}

@@ -1,6 +1,6 @@
 -- The relations of functions without faults can be added.
-use Rattle.std.proofs.Common.{rules, lit<, ◌≡◌, ◌≢◌, ◌<◌, ◌≤◌, ℕ, suc, ◌+◌, Bool, true, false, not, ◌||◌, List, [], ◌∷◌, ◌++◌, map, length, Option, Some, None, is_some, All, refl, sym, ap, subst, ◌∙◌, if◌then◌else◌, arith}
-use Rattle.std.specs.Prelude.{nat_eq, nat_lt, codes, filter}
+use Rattle.std.proofs.Common.{rules, lit<, ◌≡◌, ◌<◌, ◌≤◌, ℕ, ◌+◌, Bool, true, false, not, ◌||◌, List, [], ◌∷◌, ◌++◌, map, length, Option, Some, None, is_some, All, refl, sym, ap, subst, ◌∙◌, if◌then◌else◌, arith}
+use Rattle.std.specs.Prelude.{nat_eq, nat_lt, codes}
 use Rattle.std.specs.List.{flat_map}
 use Rattle.std.specs.Cmp.Lexicographic.{bytes_decides}
 use Rattle.std.proofs.lemmas.Bool.{eqb-true}
@@ -15,21 +15,20 @@ use Rattle.sig_core.specs.declared.signature.Param.{Param}
 use Rattle.sig_core.specs.declared.signature.Relation.{Relation}
 use Rattle.sig_core.specs.declared.signature.SigError.{SigError}
 use Rattle.sig_core.specs.Names.{AreDistinct, is_reserved, place_of, same_name}
-use Rattle.sig_core.specs.Refusals.{relation_refusal, with_relation}
+use Rattle.sig_core.specs.Refusals.{with_relation}
 use Rattle.sig_core.specs.Signatures.{Declarations}
-use Rattle.sig_core.specs.WellFormed.{IsDeclared, IsRelation, names_of_params, relation_names, term_types}
+use Rattle.sig_core.specs.WellFormed.{IsRelation, names_of_params, relation_names, term_types}
 use Rattle.sig_core.proofs.NameLemmas.{AreDistinct-push}
 use Rattle.sexpr_core.specs.declared.form.Atom.{Atom}
-use Rattle.syntax_core.specs.declared.fault.Fault.{Fault}
 use Rattle.syntax_core.specs.declared.syntax.Declaration.{Declaration}
 use Rattle.syntax_core.specs.declared.syntax.Function.{Function}
 use Rattle.syntax_core.specs.declared.syntax.Pair.{Pair}
-use Rattle.name_core.specs.Faults.{bad_if, first, found_after, found_from, past}
+use Rattle.name_core.specs.Faults.{first, found_after, found_from, past}
 use Rattle.elab_core.specs.Fitting.{RelationFits, RelationsFit}
 use Rattle.name_core.specs.Limits.{declaration_limits, long_name, pair_limits, pairs_limits}
 use Rattle.name_core.specs.Names.{declaration_names, function_names, has, is_plain, is_sort, names_in, parameter_names, sort_names, term_pairs, texts, unfit_name, unknown_name}
 use Rattle.sort_core.specs.Opens.{number_named}
-use Rattle.sort_core.specs.Relations.{kind_of, param_of, relation_of, sort_named, type_named}
+use Rattle.sort_core.specs.Relations.{param_of, relation_of, sort_named, type_named}
 use Rattle.sort_core.specs.Sorts.{declaration_faults}
 use Rattle.elab_core.proofs.Fits.{has-append, neither, none-left, none-right, passes, stands_among, within_limit}
 use Rattle.elab_core.proofs.Terms.{number_within}

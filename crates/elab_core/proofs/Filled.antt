@@ -1,5 +1,5 @@
 -- Nonterminals and productions that are added one after the other make the grammar of a command.
-use Rattle.std.proofs.Common.{◌≡◌, ◌<◌, ℕ, suc, ◌+◌, List, [], ◌∷◌, ◌++◌, map, length, slice_set, refl, sym, ap, ◌∙◌, arith}
+use Rattle.std.proofs.Common.{◌≡◌, ℕ, ◌+◌, List, [], ◌∷◌, ◌++◌, map, length, slice_set, refl, sym, ap, ◌∙◌, arith}
 use Rattle.std.specs.Prelude.{slice_index_or}
 use Rattle.std.specs.List.{zip}
 use Rattle.std.proofs.lemmas.List.{append-nil, append_assoc, length-append}
@@ -7,7 +7,6 @@ use Rattle.sig_core.specs.Signatures.{Declarations}
 use Rattle.sexpr_core.specs.declared.form.Sexpr.{Sexpr}
 use Rattle.syntax_core.specs.declared.syntax.Pair.{Pair}
 use Rattle.syntax_core.specs.Syntax.{items_at}
-use Rattle.grammar_core.specs.declared.ids.NtId.{NtId}
 use Rattle.grammar_core.specs.declared.production.Nonterminal.{Nonterminal}
 use Rattle.grammar_core.specs.declared.production.Production.{Production}
 use Rattle.grammar_core.specs.Grammars.{blank}

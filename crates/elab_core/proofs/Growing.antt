@@ -3,12 +3,11 @@ use Rattle.std.proofs.Common.{◌≡◌, ◌<◌, ◌≤◌, ℕ, zero, suc, ◌
 use Rattle.std.specs.Prelude.{nat_le, option_map}
 use Rattle.std.specs.Option.{option_map_or}
 use Rattle.std.specs.List.{flat_map, enumerate_from}
-use Rattle.std.proofs.lemmas.Bool.{leb-true}
 use Rattle.std.proofs.lemmas.Bool.Decides.{nat_tests}
 use Rattle.std.proofs.lemmas.List.{length-append, map-append}
 use Rattle.std.proofs.lemmas.List.Elements.{All-append, All-cons, All-map, All-nil, All-weaker}
 use Rattle.sig_core.specs.declared.signature.Constructor.{Constructor}
-use Rattle.sig_core.specs.Signatures.{Declarations, kinds_of, owner_in}
+use Rattle.sig_core.specs.Signatures.{Declarations, owner_in}
 use Rattle.sig_core.specs.WellFormed.{IsWellFormed, constructor_names}
 use Rattle.sexpr_core.specs.declared.form.Atom.{Atom}
 use Rattle.sexpr_core.specs.declared.form.Sexpr.{Sexpr}
@@ -42,7 +41,7 @@ use Rattle.elab_core.proofs.Fits.{none-left, none-right}
 abbrev pub grown : Declarations → List (List ℕ) → List Constructor → Declarations
 grown sig types constructors = record sig { types = sig.types ++ types; constructors = sig.constructors ++ constructors }
 
-slice_get-left : {X : Type 0} (xs ys : List X) (k : ℕ) → k < length xs → slice_get (xs ++ ys) k ≡ slice_get xs k
+pub slice_get-left : {X : Type 0} (xs ys : List X) (k : ℕ) → k < length xs → slice_get (xs ++ ys) k ≡ slice_get xs k
 slice_get-left [] ys k h = absurd (omega arith)
 slice_get-left (x ∷ xs) ys zero h = refl
 slice_get-left (x ∷ xs) ys (suc k) h = let l : k < length xs = omega arith in slice_get-left xs ys k l
@@ -164,7 +163,7 @@ rules_still sig form rules h =
     All-weaker (IsSoundRule sig) (IsSoundRule (with_terms sig form))
     (λ r s. rule_still sig (texts (type_names form)) (flat_map (constructors_of (with_types sig form)) (enumerate_from (length sig.types) (items_at 2 form))) r s) rules h
 
-wanted_still : (sig grown : Declarations) (constraints : List Constraint) (is_over : Bool) (wanted : Option Wanted) → not (is_some wanted) ≡ true →
+pub wanted_still : (sig grown : Declarations) (constraints : List Constraint) (is_over : Bool) (wanted : Option Wanted) → not (is_some wanted) ≡ true →
     IsSoundWanted sig constraints is_over wanted → IsSoundWanted grown constraints is_over wanted
 wanted_still sig grown constraints is_over None none h = h
 wanted_still sig grown constraints is_over (Some wanted) none h = absurd (cc)

@@ -1,5 +1,5 @@
 -- A command that is taken or refused, as a step.
-use Rattle.std.proofs.Common.{◌≡◌, Bool, true, ◌++◌, Option, Some, None, Result, Ok, Err, refl, sym, ap, ap₂, ◌∙◌, if◌then◌else◌}
+use Rattle.std.proofs.Common.{◌≡◌, true, ◌++◌, Option, Some, None, Ok, Err, refl, sym, ap, ap₂, ◌∙◌, if◌then◌else◌}
 use Rattle.std.specs.Option.{option_map_or, option_or}
 use Rattle.sexpr_core.specs.declared.form.Sexpr.{Sexpr}
 use Rattle.sexpr_core.specs.Access.{place_of}
@@ -11,12 +11,11 @@ use Rattle.sort_core.specs.declared.error.ElabError.TheVariants as error
 use Rattle.elab_core.specs.Elaborating.{IsJudgedAs, IsNotTaken, IsRefusal, IsRefusedAfter, IsSoundStanding, IsTaken, outcome_in, standing_after}
 use Rattle.sort_core.specs.Errors.{IsDue}
 use Rattle.name_core.specs.Faults.{first, shapes}
-use Rattle.elab_core.specs.Judging.{Outcome, command_fault, faults_in, judged, may_come, outcome_of, refused, stands, step}
-use Rattle.elab_core.specs.Making.{added}
+use Rattle.elab_core.specs.Judging.{Outcome, command_fault, faults_in, may_come, outcome_of, refused, stands, step}
 use Rattle.name_core.specs.States.{State}
 use Rattle.name_core.proofs.Firsts.{first-append}
 
-fault_is : (s : State) (h : Head) (form : Sexpr) (o p : Option Fault) → may_come s h ≡ true → first (shapes form) ≡ o → first (faults_in s h form) ≡ p → command_fault s h form ≡ option_or o p
+pub fault_is : (s : State) (h : Head) (form : Sexpr) (o p : Option Fault) → may_come s h ≡ true → first (shapes form) ≡ o → first (faults_in s h form) ≡ p → command_fault s h form ≡ option_or o p
 fault_is s h form o p come e f =
     ap (λ b. if b then first (shapes form ++ faults_in s h form) else Some (refusal (place_of form) 12)) come ∙ first-append (shapes form) (faults_in s h form) ∙ ap₂ option_or e f
 

@@ -1,5 +1,5 @@
 -- The rules that functions make, where the tests of limits, names and sorts have found nothing.
-use Rattle.std.proofs.Common.{◌≡◌, ℕ, suc, Bool, false, ◌+◌, ◌≤◌, ◌<◌, ◌^◌, ◌++◌, Option, Some, None, List, [], ◌∷◌, map, length, slice_get, true, refl, sym, ap, subst, ◌∙◌, arith}
+use Rattle.std.proofs.Common.{◌≡◌, ℕ, suc, Bool, false, ◌+◌, ◌≤◌, ◌<◌, ◌^◌, ◌++◌, Some, None, List, [], ◌∷◌, map, length, slice_get, true, refl, sym, ap, subst, ◌∙◌, arith}
 use Rattle.std.specs.Prelude.{All, nat_eq, option_map, sum_by, filter, if◌then◌else◌}
 use Rattle.std.specs.List.{flat_map}
 use Rattle.std.proofs.lemmas.Bool.Decides.{nat_tests}
@@ -7,18 +7,14 @@ use Rattle.std.proofs.lemmas.List.{length-append, length-map}
 use Rattle.std.proofs.lemmas.List.Sums.{sum_by-cons}
 use Rattle.std.proofs.lemmas.List.Elements.{All-nil, All-cons, All-head, All-tail, All-append, All-weaker}
 use Rattle.std.proofs.lemmas.Option.{slice_get-map, slice_get_within}
-use Rattle.sig_core.specs.declared.ids.ConId.{ConId}
 use Rattle.sig_core.specs.declared.ids.RelId.{RelId}
-use Rattle.sig_core.specs.declared.ids.TypeId.{TypeId}
 use Rattle.sig_core.specs.declared.signature.Kind.{Kind}
 use Rattle.sig_core.specs.declared.signature.Kind.TheVariants.{Term, Input, Output}
 use Rattle.sig_core.specs.declared.signature.Param.{Param}
-use Rattle.sig_core.specs.declared.signature.Relation.{Relation}
 use Rattle.sig_core.specs.Names.{AreDistinct}
-use Rattle.sig_core.specs.Signatures.{Declarations, input_slots, kinds_of, owner_in, owner_of, params_in, plain_sorts, term_type}
+use Rattle.sig_core.specs.Signatures.{Declarations, input_slots, kinds_of, owner_in, params_in, plain_sorts, term_type}
 use Rattle.rule_core.specs.declared.rule.Var.{Var}
-use Rattle.rule_core.specs.Instances.{slot_sorts}
-use Rattle.rule_core.specs.Rulebooks.{HasSmallParts, IsRuleOf}
+use Rattle.rule_core.specs.Rulebooks.{IsRuleOf}
 use Rattle.syntax_core.specs.declared.syntax.Case.{Case}
 use Rattle.syntax_core.specs.declared.syntax.Function.{Function}
 use Rattle.syntax_core.specs.declared.syntax.Pair.{Pair}
@@ -29,14 +25,14 @@ use Rattle.sort_core.specs.Branches.{HasNarrowCases, IsNarrow, constructor_named
 use Rattle.name_core.specs.Faults.{first}
 use Rattle.name_core.specs.Names.{has, is_plain, names_in, plain_pairs, term_pairs, texts}
 use Rattle.sort_core.specs.Opens.{opened, variables_of, within}
-use Rattle.sort_core.specs.Relations.{declared_with, kind_of, param_of, relation_of, type_named}
-use Rattle.elab_core.specs.Rules.{HasFewPlain, HasRules, atoms_from, rule_of, var_of}
+use Rattle.sort_core.specs.Relations.{declared_with, kind_of, relation_of, type_named}
+use Rattle.elab_core.specs.Rules.{HasFewPlain, HasRules, rule_of, var_of}
 use Rattle.sort_core.specs.Sorts.{branch_faults, case_faults, constructor_at, declaration_faults, definition_faults, functions_faults, makes, matched_type, pattern_faults, sorts_of}
 use Rattle.elab_core.proofs.BranchWidths.{no_more_around}
 use Rattle.sort_core.proofs.Faultless.{holds, none_each, none_parts}
 use Rattle.elab_core.proofs.Smallness.{atoms_few, few_of_weight, small_atoms}
 use Rattle.sort_core.proofs.TermTypes.{Made, first_term, kinds_of_params, made_by, single, sort_of_matched}
-use Rattle.elab_core.proofs.Weights.{HasLightCases, IsLight, weight}
+use Rattle.elab_core.proofs.Weights.{HasLightCases, IsLight}
 
 -- A function that has passed the tests of limits, names and sorts, after the signature with the relations of its command. The
 -- atoms of each of its rules have at most so many nodes.

@@ -1,12 +1,11 @@
 -- The rules that functions make are sound, where the tests of limits, names, sorts and data flow have found nothing.
 use Rattle.std.proofs.Common.{◌≡◌, ℕ, ◌+◌, ◌≤◌, ◌<◌, ◌^◌, Bool, true, false, Option, Some, None, List, [], ◌∷◌, ◌++◌, map, length, slice_get, refl, sym, ap, ap₂, subst, ◌∙◌, arith}
-use Rattle.std.specs.Prelude.{◌≢◌, not, ◌&&◌, ◌||◌, nat_eq, unwrap_or, All, option_map}
+use Rattle.std.specs.Prelude.{not, ◌&&◌, ◌||◌, nat_eq, All, option_map}
 use Rattle.std.specs.List.{flat_map, list_all}
-use Rattle.std.specs.Option.{option_map_or, option_to_list}
-use Rattle.std.proofs.lemmas.List.{length-append, length-map}
+use Rattle.std.specs.Option.{option_to_list}
+use Rattle.std.proofs.lemmas.List.{length-map}
 use Rattle.std.proofs.lemmas.List.Elements.{All-nil, All-cons, All-head, All-tail, All-append, All-map, All-weaker}
 use Rattle.std.proofs.lemmas.Grind.{flat_map-append}
-use Rattle.sig_core.specs.declared.ids.ConId.{ConId}
 use Rattle.sig_core.specs.declared.ids.RelId.{RelId}
 use Rattle.sig_core.specs.declared.signature.Constructor.{Constructor}
 use Rattle.sig_core.specs.declared.signature.Kind.{Kind}
@@ -19,11 +18,8 @@ use Rattle.sig_core.specs.Signatures.{Declarations, input_slots, kinds_of, param
 use Rattle.sig_core.specs.WellFormed.{names_of_params}
 use Rattle.sexpr_core.specs.declared.form.Atom as sexpr
 use Rattle.expr_core.specs.declared.expr.Expr.{Expr}
-use Rattle.expr_core.specs.declared.expr.Expr as expr
 use Rattle.expr_core.specs.declared.expr.Op.TheVariants as op
 use Rattle.problem_core.specs.Soundness.{IsShort, IsSoundRule, is_clean, is_clean_atom, is_conjunction}
-use Rattle.rule_core.specs.declared.rule.Atom.{Atom}
-use Rattle.rule_core.specs.declared.rule.Atom.TheVariants as atom
 use Rattle.rule_core.specs.declared.rule.Var.{Var}
 use Rattle.rule_core.specs.declared.flow.FlowFault.{FlowFault}
 use Rattle.rule_core.specs.Flow.{flow_fault}
@@ -32,10 +28,8 @@ use Rattle.syntax_core.specs.declared.syntax.Case.{Case}
 use Rattle.syntax_core.specs.declared.syntax.Exp.{Exp}
 use Rattle.syntax_core.specs.declared.syntax.Function.{Function}
 use Rattle.syntax_core.specs.declared.syntax.Pair.{Pair}
-use Rattle.syntax_core.specs.declared.syntax.Application.{Application}
 use Rattle.sort_core.specs.declared.open.OpenExp.{OpenExp}
 use Rattle.sort_core.specs.declared.open.OpenNode.{OpenNode, out-OpenNode, roll-OpenNode, roll-out-OpenNode}
-use Rattle.sort_core.specs.declared.open.OpenNode as node
 use Rattle.sort_core.specs.declared.open.OpenNode.TheOpen.{OpenNode-F}
 use Rattle.sort_core.specs.declared.open.OpenNode.TheVariants.{rolls-Call}
 use Rattle.sort_core.specs.declared.variables.Variables.{Variables}
@@ -47,8 +41,8 @@ use Rattle.name_core.specs.Faults.{bad_if, first, found_from}
 use Rattle.name_core.specs.Names.{names_in, plain_pairs, texts}
 use Rattle.sort_core.specs.Opens.{opened, variables_of, within}
 use Rattle.sort_core.specs.Relations.{param_of}
-use Rattle.elab_core.specs.Rules.{atom_in, atom_of, atoms_from, branch_flow, call_atom, case_flow, case_rules, equation_atom, expr_of, expr_of_node, flow_refusal, input_args, output_args, rule_of, var_of}
-use Rattle.sort_core.specs.Sorts.{Survey, argument_faults, argument_faults_at, atom_faults, atom_faults_in, branch_faults, call_faults, case_faults, constructor_at, faults_as, is_term_of, matched_type, pattern_faults, same_stated, sorts_of, survey, survey_of_node}
+use Rattle.elab_core.specs.Rules.{atom_of, atoms_from, branch_flow, call_atom, case_flow, case_rules, equation_atom, expr_of, expr_of_node, flow_refusal, input_args, output_args, rule_of, var_of}
+use Rattle.sort_core.specs.Sorts.{argument_faults, argument_faults_at, atom_faults, atom_faults_in, branch_faults, case_faults, constructor_at, faults_as, is_term_of, matched_type, pattern_faults, same_stated, sorts_of, survey, survey_of_node}
 use Rattle.elab_core.proofs.BranchWidths.{no_more_around}
 use Rattle.elab_core.proofs.CleanRules.{IsClean, IsFine, apply_fine, clean-Call, clean_exp}
 use Rattle.elab_core.proofs.Conjunctions.{IsApart, opened_apart}

@@ -1,6 +1,6 @@
 -- The atoms of a rule have as few nodes as the expressions that they are made of.
-use Rattle.std.proofs.Common.{◌≡◌, ℕ, ◌+◌, ◌≤◌, ◌<◌, ◌^◌, Bool, true, false, Option, Some, None, List, [], ◌∷◌, map, length, refl, sym, ap, subst, ◌∙◌, rules, arith}
-use Rattle.std.specs.Prelude.{sum, unwrap_or, All, if◌then◌else◌}
+use Rattle.std.proofs.Common.{◌≡◌, ℕ, ◌≤◌, ◌<◌, ◌^◌, Bool, true, false, Option, Some, None, List, [], ◌∷◌, map, length, refl, sym, ap, subst, ◌∙◌, rules, arith}
+use Rattle.std.specs.Prelude.{unwrap_or, All, if◌then◌else◌}
 use Rattle.std.specs.Option.{option_map_or}
 use Rattle.std.proofs.lemmas.List.Elements.{All-nil, All-cons, All-head, All-tail, All-weaker, All-map}
 use Rattle.sig_core.specs.declared.ids.RelId.{RelId}
@@ -22,7 +22,6 @@ use Rattle.rule_core.specs.Flow.{known_after}
 use Rattle.rule_core.specs.Rulebooks.{HasSmallParts, IsSmall}
 use Rattle.syntax_core.specs.declared.literal.Literal.{Literal}
 use Rattle.syntax_core.specs.declared.syntax.Application.{Application}
-use Rattle.syntax_core.specs.declared.syntax.Negative.{Negative}
 use Rattle.syntax_core.specs.declared.syntax.Exp.{Exp}
 use Rattle.syntax_core.specs.declared.syntax.Exp as exp
 use Rattle.syntax_core.specs.Literals.{negative, positive}

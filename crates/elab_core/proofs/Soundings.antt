@@ -42,7 +42,7 @@ use Rattle.elab_core.specs.Making.{added, constraint_of, value_of_argument}
 use Rattle.name_core.specs.Names.{call_names, example_names, has, unknown_name}
 use Rattle.sort_core.specs.Opens.{relation_named}
 use Rattle.elab_core.specs.Rules.{plain_args, value_of_literal}
-use Rattle.sort_core.specs.Sorts.{are_of_type, example_argument, example_argument_at, example_faults, example_faults_of, examples_faults, is_literal_of, range_faults}
+use Rattle.sort_core.specs.Sorts.{are_of_type, example_argument, example_argument_at, example_faults_of, examples_faults, is_literal_of, range_faults}
 use Rattle.elab_core.proofs.Fits.{none-left, none-right, passes, within_limit}
 use Rattle.elab_core.proofs.Terms.{number_within}
 

@@ -1,10 +1,10 @@
 -- The types and constructors of a command without faults can be added.
-use Rattle.std.proofs.Common.{◌≡◌, ◌<◌, ◌≤◌, ℕ, suc, ◌+◌, Bool, true, false, not, ◌||◌, List, [], ◌∷◌, ◌++◌, map, length, get_or, Option, Some, None, is_some, unwrap_or, All, refl, sym, ap, ◌∙◌, if◌then◌else◌, arith}
-use Rattle.std.specs.Prelude.{nat_lt, position}
+use Rattle.std.proofs.Common.{◌≡◌, ◌<◌, ◌≤◌, ℕ, ◌+◌, Bool, true, false, not, List, [], ◌∷◌, ◌++◌, map, length, Option, Some, None, is_some, unwrap_or, All, refl, sym, ap, ◌∙◌, if◌then◌else◌, arith}
+use Rattle.std.specs.Prelude.{nat_lt}
 use Rattle.std.specs.List.{flat_map, enumerate_from}
 use Rattle.std.proofs.lemmas.Bool.Decides.{nat_tests}
 use Rattle.std.proofs.lemmas.List.{append_assoc, length-append, append-nil, length-map, map-append}
-use Rattle.std.proofs.lemmas.List.Elements.{All-cons, All-map, All-nil, All-push, All-weaker}
+use Rattle.std.proofs.lemmas.List.Elements.{All-cons, All-nil, All-push, All-weaker}
 use Rattle.std.proofs.lemmas.List.Quantifiers.{position-Some}
 use Rattle.sig_core.specs.declared.ids.TypeId.{TypeId}
 use Rattle.sig_core.specs.declared.signature.Constructor.{Constructor}
@@ -22,14 +22,14 @@ use Rattle.syntax_core.specs.declared.fault.Fault.{Fault}
 use Rattle.syntax_core.specs.declared.syntax.Pattern.{Pattern}
 use Rattle.syntax_core.specs.Shapes.{parts_of}
 use Rattle.syntax_core.specs.Syntax.{atom_of, items_at, name_of, others_of, pair_of, pattern_of, type_names}
-use Rattle.name_core.specs.Faults.{bad_if, first, found_after, found_from, past}
+use Rattle.name_core.specs.Faults.{first, found_after, found_from, past}
 use Rattle.elab_core.specs.Fitting.{ConstructorFits, ConstructorsFit, TermsFit}
 use Rattle.name_core.specs.Limits.{constructor_limits, long_name, type_limits, types_limits}
 use Rattle.elab_core.specs.Making.{constructor_of, constructors_of, with_types}
-use Rattle.name_core.specs.Names.{constructors_in, has, sort_names, taken_name, texts, types_names, unknown_name}
+use Rattle.name_core.specs.Names.{has, sort_names, taken_name, texts, types_names, unknown_name}
 use Rattle.sort_core.specs.Opens.{number_named}
 use Rattle.sort_core.specs.Relations.{type_named}
-use Rattle.elab_core.proofs.Fits.{has-append, neither, none-left, none-right, passes, types_fit, within_limit}
+use Rattle.elab_core.proofs.Fits.{none-left, none-right, passes, types_fit, within_limit}
 
 -- The type of a name that stands is declared.
 

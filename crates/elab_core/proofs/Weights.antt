@@ -1,9 +1,9 @@
 -- The atoms of a rule have no more nodes than the command that they are read from.
-use Rattle.std.proofs.Common.{◌≡◌, ℕ, zero, suc, ◌+◌, ◌≤◌, Bool, true, false, Option, Some, None, List, [], ◌∷◌, ◌++◌, map, drop, slice_get, refl, sym, ap, subst, ◌∙◌, rules, arith}
+use Rattle.std.proofs.Common.{◌≡◌, ℕ, zero, suc, ◌+◌, ◌≤◌, Bool, true, false, Option, Some, None, List, [], ◌∷◌, ◌++◌, map, drop, slice_get, refl, sym, ap, subst, rules, arith}
 use Rattle.std.specs.Prelude.{sum, unwrap_or, codes, All, if◌then◌else◌}
 use Rattle.std.specs.List.{flat_map}
 use Rattle.std.specs.Option.{option_map_or}
-use Rattle.std.proofs.lemmas.List.Elements.{All-nil, All-cons, All-head, All-tail, All-weaker, All-map}
+use Rattle.std.proofs.lemmas.List.Elements.{All-nil, All-cons, All-head, All-tail, All-weaker}
 use Rattle.sexpr_core.specs.declared.form.Atom.{Atom}
 use Rattle.sexpr_core.specs.declared.form.Nest.{Nest}
 use Rattle.sexpr_core.specs.declared.form.Sexpr.{Sexpr, the_lemmas}
@@ -17,7 +17,7 @@ use Rattle.syntax_core.specs.declared.syntax.Exp as exp
 use Rattle.syntax_core.specs.declared.syntax.Function.{Function}
 use Rattle.syntax_core.specs.declared.syntax.Pair.{Pair}
 use Rattle.syntax_core.specs.Shapes.{parts_of}
-use Rattle.syntax_core.specs.Syntax.{application_of, begins, body_of, case_of, conjuncts_of, deepest, definition_of, expression_of, expression_of_nest, function_of, functions_from, functions_of, item_of, leaf_of, negated_numeral, others_of, pairs_of}
+use Rattle.syntax_core.specs.Syntax.{application_of, begins, body_of, case_of, conjuncts_of, deepest, expression_of, expression_of_nest, function_of, functions_from, functions_of, item_of, leaf_of, negated_numeral, others_of, pairs_of}
 use Rattle.name_core.specs.Bodies.{Branch, branches_of, branches_within}
 use Rattle.elab_core.proofs.BranchWidths.{All-flat_map}
 use Rattle.name_core.proofs.Branchings.{branches-Leaf, branches-Fork}

@@ -77,3 +77,12 @@ pub record IsTaken (old : State) (h : Head) (form : Sexpr) (new : State) : Type 
   pub fine : first (faults_in old h form) ≡ None
   pub is_added : new ≡ added old h form
   pub sound : IsSoundState new
+
+-- the first refusal, if there was one
+abbrev pub fault_of : Outcome → Option Fault
+fault_of (stands s) = None
+fault_of (refused fault) = Some fault
+
+abbrev pub fault_in : Option Outcome → Option Fault
+fault_in None = None
+fault_in (Some outcome) = fault_of outcome

@@ -3,6 +3,7 @@ use Rattle.std.specs.Prelude.{◌<◌, ◌≤◌, ℕ, Bool, not, ◌&&◌, is_s
 use Rattle.std.specs.Option.{option_map_or}
 use Rattle.sexpr_core.specs.declared.form.Sexpr.{Sexpr}
 use Rattle.sexpr_core.specs.Access.{place_of, symbol_of}
+use Rattle.sexpr_core.specs.Prefixes.{Complete, IsFault}
 use Rattle.sexpr_core.specs.Spelling.{Spell}
 use Rattle.problem_core.specs.Problems.{Parts}
 use Rattle.syntax_core.specs.declared.commands.Head.{Head}
@@ -94,8 +95,14 @@ abbrev pub closed : ℕ → Outcome → Result Parts Fault
 closed end (stands s) = stated_by end s s.wanted
 closed end (refused fault) = Err fault
 
--- What a text of bytes is judged to be. A text that is no spelling is refused at place 0 by reason 13.
+-- why a text is refused that has a lexical fault: for the first refusal among its complete forms, else for that fault
+abbrev pub cut_short : ℕ → ℕ → Outcome → Fault
+cut_short place reason (stands s) = refusal place reason
+cut_short place reason (refused fault) = fault
+
+-- What a text of bytes is judged to be.
 pub data Judges (text : List ℕ) : Result Parts Fault → Type 0 where
   too_long : 1048576 < length text → Judges text (Err (record { place = 1048576; reason = 50; limit = 1 }))
   spelled : (forms : List Sexpr) → length text ≤ 1048576 → Spell text forms → Judges text (closed (length text) (after (stands start) forms))
-  no_spelling : length text ≤ 1048576 → ((forms : List Sexpr) → ¬ Spell text forms) → Judges text (Err (refusal 0 13))
+  misspelled : (forms : List Sexpr) (place reason : ℕ) → length text ≤ 1048576 → IsFault text place reason → Complete text forms →
+      Judges text (Err (cut_short place reason (after (stands start) forms)))

@@ -4,3 +4,6 @@ pub mod Fitting
 pub mod Judging
 pub mod Elaborating
 pub mod Soundness
+pub mod Places
+pub mod Flowing
+pub mod Feeding

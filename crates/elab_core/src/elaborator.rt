@@ -1,10 +1,12 @@
-ghost use Rattle.std.specs.Prelude.{◌≡◌, IsTrue, Some, OnOk, IfErr};
-ghost use Rattle.elab_core.specs.Elaborating.{IsNotTaken, IsRefusedAfter, IsSoundStanding, answered, is_standing, made, next, outcome_in, standing_after};
-ghost use Rattle.elab_core.specs.Judging.{closed, stands};
+ghost use Rattle.std.specs.Prelude.{◌≡◌, IsTrue, Some, Err, OnOk, IfErr};
+ghost use Rattle.sort_core.specs.declared.error.ElabError.TheVariants as Error;
+ghost use Rattle.syntax_core.specs.declared.fault.Fault;
+ghost use Rattle.elab_core.specs.Elaborating.{IsNotTaken, IsRefusedAfter, IsSoundStanding, answered, fault_in, is_standing, made, next, outcome_in, standing_after};
+ghost use Rattle.elab_core.specs.Judging.{closed, refused, stands};
 ghost use Rattle.elab_core.specs.Soundness.{IsSoundState};
 ghost use Rattle.name_core.specs.States.{start};
+ghost use Rattle.sexpr_core.specs.Sizes.{IsSmall};
 
-use crate::passes::Passes;
 use crate::stated::{StatedParts, WantedFunction};
 use problem_core::Problem;
 use sexpr_core::Sexpr;
@@ -59,20 +61,28 @@ impl Elaborator {
 
     /// Takes the next form: Ok exactly where it is a command that isn't refused after the earlier ones, which is added.
     /// After a refusal every call answers it, and after want of memory `Memory`.
-    pub(crate) fn command_by<P: Passes>(
-        &mut self,
-        passes: &P,
-        form: &Sexpr,
-    ) -> Result<(), ElabError>
+    pub fn command(&mut self, form: &Sexpr) -> Result<(), ElabError>
+        requires { IsSmall form.now }
         ensures ok { OnOk result ((self.new ≡ next self.old form.now) × IsTrue (is_standing self.new)) }
         ensures err { IfErr result (IsNotTaken self.old form.now self.new) }
+        ensures refused { (fault : Fault) → self.old ≡ Some (refused fault) → result ≡ Err (Error.Fault fault) }
     {
-        match self.standing.take(passes, self.alloc, form) {
+        match self.standing.take(self.alloc, form) {
             Ok(()) => Ok(()),
             Err(error) => {
                 self.standing = standing_after(error);
                 Err(error)
             }
+        }
+    }
+
+    /// The first refusal, if there was one.
+    pub(crate) fn fault(&self) -> Option<Fault>
+        ensures { result ≡ fault_in self.now }
+    {
+        match &self.standing {
+            Standing::Refused(fault) => Some(*fault),
+            Standing::Stated(_) | Standing::Spent => None,
         }
     }
 
@@ -91,14 +101,16 @@ impl Elaborator {
 
 impl Standing {
     /// Takes the form, if nothing was refused before it.
-    fn take<P: Passes>(&mut self, passes: &P, alloc: Global, form: &Sexpr) -> Result<(), ElabError>
-        requires { IsSoundStanding self.old }
+    fn take(&mut self, alloc: Global, form: &Sexpr) -> Result<(), ElabError>
+        requires sound { IsSoundStanding self.old }
+        requires small { IsSmall form.now }
         ensures ok { OnOk result ((outcome_in self.new ≡ next (outcome_in self.old) form.now) × IsTrue (is_standing (outcome_in self.new))) }
         ensures sound { OnOk result (IsSoundStanding self.new) }
         ensures err { IfErr result (IsRefusedAfter (outcome_in self.old) form.now) }
+        ensures refused { (fault : Fault) → outcome_in self.old ≡ Some (refused fault) → result ≡ Err (Error.Fault fault) }
     {
         match self {
-            Standing::Stated(stated) => stated.take(passes, alloc, form),
+            Standing::Stated(stated) => stated.take(alloc, form),
             Standing::Refused(fault) => Err(ElabError::Fault(*fault)),
             Standing::Spent => Err(ElabError::Memory),
         }

@@ -3,20 +3,24 @@
 
 mod commands;
 mod constraints;
+mod defining;
 mod elaborator;
 mod examples;
 mod flow;
 mod grammars;
+mod judge;
 mod laws;
 mod making;
-mod passes;
 mod relations;
 mod rules;
 mod stated;
 mod taking;
+mod taking_terms;
+mod taking_wanted;
 mod types;
 
 pub use elaborator::Elaborator;
-pub use laws::one_judgement;
+pub use judge::Judge;
+pub use laws::{nodes_from_the_left, one_judgement, rules_fit};
 pub use sort_core::ElabError;
 pub use syntax_core::Fault;

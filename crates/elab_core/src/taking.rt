@@ -1,13 +1,14 @@
 //! The next command, judged and added.
-ghost use Rattle.std.specs.Prelude.{◌≡◌, None, true, OnOk, IfErr};
+ghost use Rattle.std.specs.Prelude.{◌≡◌, None, OnOk, IfErr};
 ghost use Rattle.elab_core.specs.Elaborating.{IsJudgedAs, IsRefusal, IsTaken};
 ghost use Rattle.sort_core.specs.Errors.{IsDue};
 ghost use Rattle.name_core.specs.Faults.{first, shapes};
-ghost use Rattle.elab_core.specs.Judging.{faults_in, may_come, stands, step};
+ghost use Rattle.elab_core.specs.Judging.{faults_in, stands, step};
 ghost use Rattle.elab_core.specs.Soundness.{IsSoundState};
+ghost use Rattle.sexpr_core.specs.Sizes.{IsSmall};
 
-use crate::passes::Passes;
 use crate::stated::StatedParts;
+use name_core::shape_fault;
 use sexpr_core::Sexpr;
 use sort_core::ElabError;
 use std::alloc::Global;
@@ -15,24 +16,19 @@ use syntax_core::Head;
 
 impl StatedParts {
     /// Takes a command that may come and is of right shape.
-    fn take_shaped<P: Passes>(
-        &mut self,
-        passes: &P,
-        alloc: Global,
-        head: Head,
-        form: &Sexpr,
-    ) -> Result<(), ElabError>
-        requires come { may_come self.old head ≡ true }
+    fn take_shaped(&mut self, alloc: Global, head: Head, form: &Sexpr) -> Result<(), ElabError>
+        requires judged { IsJudgedAs self.old head form.now }
         requires shape { first (shapes form.now) ≡ None }
         requires sound { IsSoundState self.old }
+        requires small { IsSmall form.now }
         ensures ok { OnOk result (IsTaken self.old head form.now self.new) }
         ensures err { IfErr result (IsDue (first (faults_in self.old head form.now))) }
     {
         match head {
             Head::SetInfo => self.add_info(alloc, form)?,
-            Head::DeclareTermTypes => passes.declare_terms(alloc, self, form)?,
-            Head::DefineFunsRec => passes.define_functions(alloc, self, form)?,
-            Head::SynthFun => passes.want_function(alloc, self, form)?,
+            Head::DeclareTermTypes => self.take_terms(alloc, form)?,
+            Head::DefineFunsRec => self.define_functions(alloc, form)?,
+            Head::SynthFun => self.take_wanted(alloc, form)?,
             Head::Constraint => self.constrain(alloc, form)?,
             Head::CheckSynth => self.end(),
         }
@@ -40,22 +36,17 @@ impl StatedParts {
     }
 
     /// Takes the form that is judged as this command, unless a pass finds a fault.
-    fn take_as<P: Passes>(
-        &mut self,
-        passes: &P,
-        alloc: Global,
-        head: Head,
-        form: &Sexpr,
-    ) -> Result<(), ElabError>
+    fn take_as(&mut self, alloc: Global, head: Head, form: &Sexpr) -> Result<(), ElabError>
         requires judged { IsJudgedAs self.old head form.now }
         requires sound { IsSoundState self.old }
+        requires small { IsSmall form.now }
         ensures ok { OnOk result (step (stands self.old) form.now ≡ stands self.new) }
         ensures sound { OnOk result (IsSoundState self.new) }
         ensures err { IfErr result (IsRefusal (step (stands self.old) form.now)) }
     {
-        match passes.shape_fault(form) {
+        match shape_fault(form) {
             Some(fault) => Err(ElabError::Fault(fault)),
-            None => match self.take_shaped(passes, alloc, head, form) {
+            None => match self.take_shaped(alloc, head, form) {
                 Ok(()) => Ok(()),
                 Err(error) => Err(error),
             },
@@ -63,19 +54,15 @@ impl StatedParts {
     }
 
     /// Takes the form, if it is a command that isn't refused.
-    pub(crate) fn take<P: Passes>(
-        &mut self,
-        passes: &P,
-        alloc: Global,
-        form: &Sexpr,
-    ) -> Result<(), ElabError>
-        requires { IsSoundState self.old }
+    pub(crate) fn take(&mut self, alloc: Global, form: &Sexpr) -> Result<(), ElabError>
+        requires sound { IsSoundState self.old }
+        requires small { IsSmall form.now }
         ensures ok { OnOk result (step (stands self.old) form.now ≡ stands self.new) }
         ensures sound { OnOk result (IsSoundState self.new) }
         ensures err { IfErr result (IsRefusal (step (stands self.old) form.now)) }
     {
         match self.head_of(form) {
-            Ok(head) => self.take_as(passes, alloc, head, form),
+            Ok(head) => self.take_as(alloc, head, form),
             Err(fault) => Err(ElabError::Fault(fault)),
         }
     }

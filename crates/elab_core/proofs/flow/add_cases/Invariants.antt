@@ -1,9 +1,9 @@
 use Rattle.std.proofs.Common.{◌≡◌, ◌≤◌, ◌+◌, ◌++◌, drop, length}
-use Rattle.std.specs.Prelude.{sum_by, All}
+use Rattle.std.specs.Prelude.{sum_by}
 use Rattle.std.specs.List.{flat_map}
 use Rattle.sort_core.specs.declared.branch.OpenCase.{OpenCase}
 use Rattle.name_core.specs.Faults.{first}
-use Rattle.elab_core.specs.Rules.{HasFewPlain, HasRules, case_flow, case_rules}
+use Rattle.elab_core.specs.Rules.{case_flow, case_rules}
 use Rattle.elab_core.proofs.flow.add_cases.Given as goal
 
 -- the first fault and the rules are those of what is left

@@ -1,5 +1,4 @@
-use Rattle.std.proofs.Common.{◌≡◌, ◌+◌, List, map, drop, sym, ap, subst, ◌∙◌}
-use Rattle.sexpr_core.specs.declared.form.Sexpr.{Sexpr}
+use Rattle.std.proofs.Common.{◌+◌, List, map, drop, sym, ap, subst, ◌∙◌}
 use Rattle.grammar_core.specs.declared.production.Nonterminal.{Nonterminal}
 use Rattle.syntax_core.specs.declared.syntax.Pair.{Pair}
 use Rattle.syntax_core.specs.Syntax.{pair_of}

@@ -1,4 +1,4 @@
-use Rattle.std.proofs.Common.{◌≡◌, ◌+◌, ◌++◌, [], ◌∷◌, List, drop, sym, ap, subst, ◌∙◌, append_assoc}
+use Rattle.std.proofs.Common.{◌+◌, ◌++◌, [], ◌∷◌, List, drop, sym, ap, subst, ◌∙◌, append_assoc}
 use Rattle.sig_core.specs.declared.signature.Constructor.{Constructor}
 use Rattle.sig_core.specs.Signatures.{Declarations}
 use Rattle.elab_core.specs.Fitting.{ConstructorsFit}

@@ -1,4 +1,4 @@
-use Rattle.std.proofs.Common.{◌≡◌, ◌+◌, ◌++◌, List, map, drop, sym, ap, ◌∙◌, append_assoc, arith}
+use Rattle.std.proofs.Common.{◌+◌, ◌++◌, List, map, drop, sym, ap, ◌∙◌, append_assoc, arith}
 use Rattle.std.specs.List.{flat_map, enumerate_from}
 use Rattle.sig_core.specs.declared.signature.Constructor.{Constructor}
 use Rattle.sexpr_core.specs.declared.form.Sexpr.{Sexpr}

@@ -1,4 +1,4 @@
-use Rattle.std.proofs.Common.{◌≡◌, ◌++◌, Bool, true, not, is_some, Option, Some, None, List, [], length, refl, sym, ap, subst, ◌∙◌}
+use Rattle.std.proofs.Common.{◌≡◌, ◌++◌, None, List, [], subst}
 use Rattle.syntax_core.specs.declared.fault.Fault.{Fault}
 use Rattle.syntax_core.specs.declared.commands.Head.TheVariants as head
 use Rattle.name_core.specs.Faults.{first}

@@ -1,15 +1,15 @@
-use Rattle.std.proofs.Common.{◌≡◌, Option, sym, subst}
+use Rattle.std.proofs.Common.{Option, sym, subst}
 use Rattle.elab_core.specs.declared.elaborator.Standing.{Standing}
 use Rattle.elab_core.specs.Elaborating.{IsNotTaken, IsRefusedAfter, IsSoundStanding, outcome_in}
 use Rattle.elab_core.specs.Judging.{Outcome}
 use Rattle.elab_core.proofs.Outcomes.{no_state, not_taken}
-use Rattle.elab_core.proofs.elaborator.Elaborator.command_by.Goals as goal
+use Rattle.elab_core.proofs.elaborator.Elaborator.command.Goals as goal
 
 pub invariant_of-self-in-Err : goal.invariant_of-self-in-Err
-invariant_of-self-in-Err g c = subst IsSoundStanding (sym c.standing_after.ensures) (no_state c.in-Err.error)
+invariant_of-self-in-Err c = subst IsSoundStanding (sym c.standing_after.ensures) (no_state c.in-Err.error)
 
 pub returns-in-Err-clause-err : goal.returns-in-Err-clause-err
-returns-in-Err-clause-err g c =
+returns-in-Err-clause-err c =
     let P : Option Outcome → Type 0 = λ o. IsRefusedAfter o c.args.form.now c.in-Err.error in
     let Q : Standing → Type 0 = λ s. IsNotTaken c.args.self.now c.args.form.now (outcome_in s) c.in-Err.error in
     let due : P c.args.self.now = subst P c.self.view_is c.in-Err.ensures.err in
