@@ -1,7 +1,7 @@
 use crate::language::expression;
-use sort_core::atom_fault;
 use items::Items;
 use sig_core::{Bytes, Constructor, Signature, Sort, TypeId};
+use sort_core::atom_fault;
 use std::alloc::{AllocError, Global};
 use std::test::Fail;
 

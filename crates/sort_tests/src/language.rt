@@ -1,10 +1,10 @@
 //! Expressions over the slots x, r and b, the term t and its one child c.
 ghost use Rattle.std.specs.Prelude.{◌≤◌, length, IfOk};
 
-use sort_core::{OpenExp, Variables, opened};
 use rule_core::Names;
 use sexpr_core::read_whole;
 use sig_core::{Bytes, Signature};
+use sort_core::{OpenExp, Variables, opened};
 use std::alloc::{AllocError, Global};
 use syntax_core::expression_of;
 
