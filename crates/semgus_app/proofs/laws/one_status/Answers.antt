@@ -1,5 +1,5 @@
-use Rattle.semgus_app.proofs.Dues.{one_status}
+use Rattle.semgus_app.proofs.Dues.{due_line, one_status}
 use Rattle.semgus_app.proofs.laws.one_status.Goals as goal
 
 pub returns : goal.returns
-returns c = one_status
+returns c = record { status = one_status; text = due_line }
