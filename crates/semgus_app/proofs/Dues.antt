@@ -7,7 +7,7 @@ use Rattle.problem_core.proofs.Answers.{one_answer}
 use Rattle.semgus_app.specs.declared.status.Status.{Status}
 use Rattle.semgus_app.specs.declared.status.Status.TheVariants as status
 use Rattle.semgus_app.specs.declared.status.Which.TheVariants as which
-use Rattle.semgus_app.specs.declared.status.Fault.{Fault}
+use Rattle.syntax_core.specs.declared.fault.Fault.{Fault}
 use Rattle.semgus_app.specs.Answers.{IsAnswerText}
 use Rattle.semgus_app.specs.Dues.{IsDue, refused, found, no_term}
 use Rattle.semgus_app.specs.Files.{Inputs}

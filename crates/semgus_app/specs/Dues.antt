@@ -3,7 +3,7 @@ use Rattle.std.specs.Prelude.{◌≡◌, ℕ, List, Some, None, Ok, Err}
 use Rattle.problem_core.specs.Problems.{Parts, IsAnswer}
 use Rattle.semgus_app.specs.declared.status.Status.{Status}
 use Rattle.semgus_app.specs.declared.status.Status.TheVariants as status
-use Rattle.semgus_app.specs.declared.status.Fault.{Fault}
+use Rattle.syntax_core.specs.declared.fault.Fault.{Fault}
 use Rattle.semgus_app.specs.declared.status.Which.TheVariants as which
 use Rattle.semgus_app.specs.Answers.{IsAnswerText}
 use Rattle.semgus_app.specs.Files.{Inputs}

@@ -1,6 +1,6 @@
 -- The lines that are printed.
 use Rattle.std.specs.Prelude.{◌==◌, ℕ, List, ◌++◌, [], ◌∷◌, Option, Some, None, if◌then◌else◌, codes, decimal}
-use Rattle.semgus_app.specs.declared.status.Fault.{Fault}
+use Rattle.syntax_core.specs.declared.fault.Fault.{Fault}
 use Rattle.semgus_app.specs.declared.status.Status.{Status}
 use Rattle.semgus_app.specs.declared.status.Status.TheVariants as status
 use Rattle.semgus_app.specs.declared.status.Which.{Which}

@@ -4,7 +4,7 @@ use Rattle.std.specs.List.{list_any}
 use Rattle.sexpr_core.specs.declared.form.Sexpr.{Sexpr}
 use Rattle.sexpr_core.specs.Spelling.{Spell}
 use Rattle.problem_core.specs.Problems.{Parts}
-use Rattle.semgus_app.specs.declared.status.Fault.{Fault}
+use Rattle.syntax_core.specs.declared.fault.Fault.{Fault}
 use Rattle.semgus_app.specs.First.{first_of}
 
 -- a semicolon, a vertical bar or a double quote, which begin a comment, a quoted symbol or a string

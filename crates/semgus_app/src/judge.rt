@@ -5,9 +5,9 @@ ghost use Rattle.semgus_app.specs.Statements.{is_unread, Judges, States, StatesN
 
 use crate::first::first;
 use crate::problem::Problem;
-use crate::status::Fault;
 use sexpr_core::read_whole;
 use std::alloc::{AllocError, Global};
+use syntax_core::Fault;
 
 /// The greatest number of bytes of a problem file.
 pub const FILE_LIMIT: usize = 1_048_576;

@@ -23,4 +23,5 @@ mod tests;
 
 pub use laws::{one_status, one_task};
 pub use program::run;
-pub use status::{Fault, Status, Which};
+pub use status::{Status, Which};
+pub use syntax_core::Fault;

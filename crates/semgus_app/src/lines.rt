@@ -2,10 +2,11 @@ ghost use Rattle.std.specs.Prelude.{◌≡◌, ◌==◌, [], ◌∷◌, ◌++◌
 ghost use Rattle.semgus_app.specs.Lines.{cannot_open_line, read_fault_line, refusal_start, refusal_line, number_word};
 
 use crate::due::Due;
-use crate::status::{Fault, Status, Which};
+use crate::status::{Status, Which};
 use itoa::Buffer;
 use sig_core::Bytes;
 use std::alloc::{AllocError, Global};
+use syntax_core::Fault;
 
 /// The reason of a file that passes a limit, whose number is printed with it.
 const LIMIT_PASSED: u8 = 50;

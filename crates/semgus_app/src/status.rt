@@ -1,15 +1,7 @@
 ghost use Rattle.std.specs.Prelude.{◌≡◌};
 ghost use Rattle.semgus_app.specs.Statuses.{number_of};
 
-/// Why a file is refused, and where.
-#[derive(Clone, Copy, Debug, PartialEq, Eq)]
-pub struct Fault {
-    /// a byte offset in the file
-    pub place: u32,
-    pub reason: u8,
-    /// the number of the limit that was passed, or 0
-    pub limit: u8,
-}
+use syntax_core::Fault;
 
 /// Which of the files that the words name.
 #[derive(Clone, Copy, Debug, PartialEq, Eq)]
