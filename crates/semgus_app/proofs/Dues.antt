@@ -1,7 +1,6 @@
 -- What is due says, and that it is one status.
 use Rattle.std.proofs.Common.{◌≡◌, ◌≢◌, ◌⊎◌, ℕ, List, Option, Some, None, Result, Ok, Err, refl, sym, ap, ◌∙◌, subst, inl, inr}
 use Rattle.std.specs.Option.{ForSome}
-use Rattle.sexpr_core.proofs.Once.{spells_once}
 use Rattle.problem_core.specs.Problems.{Parts, IsAnswer}
 use Rattle.problem_core.proofs.Answers.{one_answer}
 use Rattle.semgus_app.specs.declared.status.Status.{Status}
@@ -11,25 +10,11 @@ use Rattle.syntax_core.specs.declared.fault.Fault.{Fault}
 use Rattle.semgus_app.specs.Answers.{IsAnswerText}
 use Rattle.semgus_app.specs.Dues.{IsDue, refused, found, no_term}
 use Rattle.semgus_app.specs.Files.{Inputs}
-use Rattle.semgus_app.specs.First.{first_of}
 use Rattle.semgus_app.specs.Lines.{none_line, line_of}
-use Rattle.semgus_app.specs.Statements.{States, Judges}
+use Rattle.elab_core.specs.Judging.{Judges}
+use Rattle.elab_core.proofs.Judgements.{judged_once}
 use Rattle.semgus_app.specs.Statuses.{IsJudged}
 use Rattle.semgus_app.specs.Tasks.{Task, solve, problem_file}
-
--- the file states one problem
-one_statement : (bytes : List ℕ) (p q : Parts) → States bytes p → States bytes q → p ≡ q
-one_statement bytes p q a b =
-    let forms : a.forms ≡ b.forms = spells_once bytes a.forms b.forms a.spelled b.spelled in
-    let both : Some p ≡ Some q = sym a.stated ∙ ap first_of forms ∙ b.stated in
-    cc
-
--- and it is judged in one way
-pub one_judgement : (bytes : List ℕ) (r s : Result Parts Fault) → Judges bytes r → Judges bytes s → r ≡ s
-one_judgement bytes (Ok p) (Ok q) a b = ap Ok (one_statement bytes p q a b)
-one_judgement bytes (Ok p) (Err f) a b = absurd (b.0 p a)
-one_judgement bytes (Err f) (Ok q) a b = absurd (a.0 q b)
-one_judgement bytes (Err f) (Err g) a b = ap Err (a.1 ∙ sym b.1)
 
 -- a problem with an answer text has an answer
 answer_is_none : (p : Parts) (height size : ℕ) (text : List ℕ) → IsAnswerText p height size text → IsAnswer p height size None → ⊥
@@ -59,7 +44,7 @@ pub one_status : (inputs : Inputs) (task : Task) (s s' : Status) (x x' : List �
 one_status inputs task s s' x x' d e =
     let a = case_of inputs task s x d in
     let b = case_of inputs task s' x' e in
-    let same = one_judgement inputs.problem a.0 b.0 a.1 b.1 in
+    let same = judged_once a.1 b.1 in
     one_case task b.0 s s' (subst (λ judged. Case task judged s) same a.2) b.2
 
 -- the status that is due is none of those that calls or words bring

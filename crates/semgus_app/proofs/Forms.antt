@@ -2,6 +2,12 @@
 use Rattle.std.proofs.Common.{◌≡◌, ℕ, List, [], ◌∷◌, Option, Some, None, MatchOption, length, slice_get, arith}
 use Rattle.semgus_app.specs.Tasks.{Task, solve, Asks, HaveNoForm}
 
+pub two_words : (ws : List (List ℕ)) (a b : List ℕ) → slice_get ws 0 ≡ Some a → slice_get ws 1 ≡ Some b → length ws ≡ 2 → ws ≡ a ∷ b ∷ []
+two_words [] a b p q l = absurd (omega arith)
+two_words (w ∷ []) a b p q l = absurd (omega arith)
+two_words (w ∷ x ∷ []) a b p q l = cc
+two_words (w ∷ x ∷ y ∷ ws) a b p q l = absurd (omega arith)
+
 pub four_words : (ws : List (List ℕ)) (a b d e : List ℕ) → slice_get ws 0 ≡ Some a → slice_get ws 1 ≡ Some b → slice_get ws 2 ≡ Some d → slice_get ws 3 ≡ Some e
     → length ws ≡ 4 → ws ≡ a ∷ b ∷ d ∷ e ∷ []
 four_words [] a b d e p q r s l = absurd (omega arith)

@@ -10,7 +10,7 @@ use Rattle.problem_core.specs.Problems.{Parts, IsAnswer}
 use Rattle.semgus_app.specs.Answers.{IsAnswerText}
 use Rattle.semgus_app.specs.Files.{Held, Inputs, AreRead, AreTold, Tell, WereRead, IsReached, as_problem}
 use Rattle.semgus_app.specs.Lines.{cannot_open_line, read_fault_line, none_line, line_of}
-use Rattle.semgus_app.specs.Statements.{Judges}
+use Rattle.elab_core.specs.Judging.{Judges}
 use Rattle.semgus_app.specs.Outputs.{IsOutput, IsPrinted, NoneRose, due, cannot_open, read_fault}
 use Rattle.semgus_app.specs.Statuses.{IsJudged}
 use Rattle.semgus_app.specs.Tasks.{Task, NamedFile, Asks, solve, problem_file}

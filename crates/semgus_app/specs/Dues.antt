@@ -8,7 +8,7 @@ use Rattle.semgus_app.specs.declared.status.Which.TheVariants as which
 use Rattle.semgus_app.specs.Answers.{IsAnswerText}
 use Rattle.semgus_app.specs.Files.{Inputs}
 use Rattle.semgus_app.specs.Lines.{none_line, refusal_line}
-use Rattle.semgus_app.specs.Statements.{Judges}
+use Rattle.elab_core.specs.Judging.{Judges}
 use Rattle.semgus_app.specs.Tasks.{Task, NamedFile, problem_file, solve}
 
 -- the status and the text that are due for the task and the bytes of its files

@@ -1,16 +1,10 @@
-pub mod AnswerText
 pub mod Answers
 pub mod Commands
-pub mod Constants
 pub mod Contents
-pub mod Derivations
 pub mod Dues
 pub mod Files
-pub mod First
 pub mod Lines
 pub mod Outputs
-pub mod Searches
-pub mod Shapes
-pub mod Statements
 pub mod Statuses
 pub mod Tasks
+pub mod Stepping

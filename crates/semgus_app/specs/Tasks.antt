@@ -1,5 +1,5 @@
 -- What the words ask for.
-use Rattle.std.specs.Prelude.{◌≡◌, ◌+◌, ◌≤◌, ℕ, List, [], ◌∷◌, Option, Some, None, codes, decimal}
+use Rattle.std.specs.Prelude.{◌≡◌, ◌+◌, ◌≤◌, ◌⊎◌, ℕ, List, [], ◌∷◌, Option, Some, None, codes, decimal}
 
 pub data Task : Type 0 where
   solve : (file : List ℕ) (height size : ℕ) → Task
@@ -12,9 +12,14 @@ IsHeight height = (1 ≤ height) × (height ≤ 1000)
 abbrev pub IsSize : ℕ → Type 0
 IsSize size = (1 ≤ size) × (size ≤ 40)
 
--- the words are the form of the task: `solve FILE HEIGHT SIZE`
+-- `solve FILE HEIGHT SIZE`, or `solve FILE` with 64 and 16
+abbrev pub AreSolve : List (List ℕ) → List ℕ → ℕ → ℕ → Type 0
+AreSolve words file height size = (words ≡ codes "solve" ∷ file ∷ decimal height ∷ decimal size ∷ [])
+    ⊎ ((words ≡ codes "solve" ∷ file ∷ []) × (height ≡ 64) × (size ≡ 16))
+
+-- the words are a form of the task
 abbrev pub AreForm : List (List ℕ) → Task → Type 0
-AreForm words (solve file height size) = words ≡ codes "solve" ∷ file ∷ decimal height ∷ decimal size ∷ []
+AreForm words (solve file height size) = AreSolve words file height size
 
 -- the numbers of the task are within their bounds
 abbrev pub HasBounds : Task → Type 0

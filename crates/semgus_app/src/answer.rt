@@ -1,45 +1,58 @@
-ghost use Rattle.std.specs.Prelude.{◌≤◌, ◌<◌, ℕ, [], Some, None, IfOk, MatchOption, length};
-ghost use Rattle.term_core.specs.Terms.{node};
+ghost use Rattle.std.specs.Prelude.{◌≡◌, ℕ, List, Some, None, IfOk, MatchOption, map};
+ghost use Rattle.term_core.specs.Banks.{IsLive, tree_of};
 ghost use Rattle.problem_core.specs.Problems.{IsAnswer};
 ghost use Rattle.semgus_app.specs.Answers.{IsAnswerText};
-ghost use Rattle.semgus_app.specs.Constants.{parts_of, HasConstants};
+ghost use Rattle.semgus_app.specs.Tasks.{IsHeight, IsSize};
 
-use crate::derive::derive;
-use crate::print::answer_text;
-use crate::problem::Problem;
-use crate::search::solve;
-use sig_core::{Bytes, ConId};
+use crate::derivation::derive_all;
+use answer_core::print_answer;
+use deriv_core::Steps;
+use problem_core::Problem;
+use sig_core::Bytes;
+use solve_core::{Work, solve};
 use std::alloc::{AllocError, Global};
+use term_core::{Bank, TermId};
 
 /// The text of the answer to a problem, or None where no term solves it.
-///
-/// Whatever the bounds on the height of derivations and on the size of terms are, if they are at least 1: a problem
-/// of constants has terms of size 1 and derivations of height 1 alone.
-pub fn answer(alloc: Global, problem: &Problem) -> Result<Option<Bytes>, AllocError>
-    requires { HasConstants (parts_of problem.now) }
-    ensures { IfOk result (λ o. (height size : ℕ) → 1 ≤ height → 1 ≤ size →
-        MatchOption o (IsAnswer (parts_of problem.now) height size None) (λ text. IsAnswerText (parts_of problem.now) height size text)) }
+pub fn answer(
+    alloc: Global,
+    problem: &Problem,
+    height: u32,
+    size: u32,
+) -> Result<Option<Bytes>, AllocError>
+    requires height { IsHeight height }
+    requires size { IsSize size }
+    ensures { IfOk result (λ o. MatchOption o (IsAnswer problem.now height size None) (λ text. IsAnswerText problem.now height size text)) }
 {
-    match solve(problem) {
-        Some(con) => Ok(Some(found(alloc, problem, con)?)),
+    let mut work = Work::new(alloc);
+    match solve(alloc, problem, height, size, &mut work)? {
+        Some(root) => Ok(Some(found(alloc, problem, height, work.bank(), root)?)),
         None => Ok(None),
     }
 }
 
-/// The text of the constant that is the answer.
-fn found(alloc: Global, problem: &Problem, con: ConId) -> Result<Bytes, AllocError>
-    requires constants { HasConstants (parts_of problem.now) }
-    requires known { con.0 < length problem.now.signature.constructors }
-    requires answer { (height size : ℕ) → 1 ≤ height → 1 ≤ size → IsAnswer (parts_of problem.now) height size (Some (node con [])) }
-    ensures { IfOk result (λ text. (height size : ℕ) → 1 ≤ height → 1 ≤ size → IsAnswerText (parts_of problem.now) height size text) }
+/// The text of the term that is the answer.
+fn found(
+    alloc: Global,
+    problem: &Problem,
+    height: u32,
+    bank: &Bank,
+    root: TermId,
+) -> Result<Bytes, AllocError>
+    requires height { IsHeight height }
+    requires live { IsLive bank.now root }
+    requires answer { (size : ℕ) × IsAnswer problem.now height size (Some (tree_of bank.now root)) }
+    ensures { IfOk result (λ text. (size : ℕ) → IsAnswer problem.now height size (Some (tree_of bank.now root)) → IsAnswerText problem.now height size text) }
 {
-    let derived = derive(alloc, problem, con)?;
-    let text = answer_text(
+    let mut steps = Steps::new(alloc);
+    let derived = derive_all(alloc, problem, height, bank, root, &mut steps)?;
+    let text = print_answer(
         alloc,
-        &problem.signature,
-        con,
-        derived.steps.as_slice(),
-        derived.derived.as_slice(),
+        problem.signature(),
+        bank,
+        root,
+        &steps,
+        derived.as_slice(),
     )?;
     Ok(text)
 }

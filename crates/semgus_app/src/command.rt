@@ -11,6 +11,12 @@ const MAX_HEIGHT: u32 = 1000;
 /// The greatest bound on the size of terms.
 const MAX_SIZE: u32 = 40;
 
+/// The bound on the height of derivations where none is given.
+const USUAL_HEIGHT: u32 = 64;
+
+/// The bound on the size of terms where none is given.
+const USUAL_SIZE: u32 = 16;
+
 /// What the words ask for.
 #[derive(Clone, Copy, Debug)]
 pub enum Command<'a> {
@@ -40,12 +46,15 @@ pub fn command_of(words: &Words) -> Option<Command<'_>>
     None
 }
 
-/// `solve FILE HEIGHT SIZE`, where the first word is `solve`.
+/// `solve FILE HEIGHT SIZE`, or `solve FILE`, where the first word is `solve`.
 fn solve_of(words: &Words) -> Option<Command<'_>>
     requires { slice_get words.now 0 ≡ Some (codes "solve") }
     ensures { MatchOption result ((file : List ℕ) (height size : ℕ) → ¬ Asks words.now (solve file height size)) (λ command. Asks words.now (task_of command)) }
 {
     let file = words.get(1)?;
+    if words.len() == 2 {
+        return Some(Command::Solve(file, USUAL_HEIGHT, USUAL_SIZE));
+    }
     let height = numeral_between(words.get(2)?, 1, MAX_HEIGHT)?;
     let size = numeral_between(words.get(3)?, 1, MAX_SIZE)?;
     if words.len() != 4 {

@@ -4,18 +4,13 @@
 mod answer;
 mod command;
 mod contents;
-mod derive;
+mod derivation;
 mod due;
-mod first;
 mod judge;
 mod laws;
 mod lines;
-mod print;
-mod problem;
 mod program;
 mod read;
-mod search;
-mod shape;
 mod status;
 mod task;
 #[cfg(test)]

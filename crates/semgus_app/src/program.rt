@@ -8,7 +8,7 @@ ghost use Rattle.semgus_app.specs.Dues.{IsDue};
 ghost use Rattle.semgus_app.specs.Files.{Inputs, Tell, IsReached};
 ghost use Rattle.semgus_app.specs.Lines.{bad_words_line, cannot_open_line, read_fault_line, none_line, line_of};
 ghost use Rattle.semgus_app.specs.Outputs.{IsOutput, IsPrinted, NoneRose};
-ghost use Rattle.semgus_app.specs.Statements.{Judges};
+ghost use Rattle.elab_core.specs.Judging.{Judges};
 ghost use Rattle.semgus_app.specs.Statuses.{IsJudged};
 ghost use Rattle.semgus_app.specs.Tasks.{Task, NamedFile, Asks, HaveNoForm, solve, most_taken, problem_file};
 

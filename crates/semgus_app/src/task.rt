@@ -1,10 +1,9 @@
 ghost use Rattle.std.specs.Prelude.{◌≡◌, ◌+◌, ◌<◌, ◌≤◌, ◌^◌, ℕ, List, Ok, IfOk, length};
 ghost use Rattle.semgus_app.specs.Commands.{task_of};
-ghost use Rattle.semgus_app.specs.Constants.{parts_of, HasConstants};
 ghost use Rattle.semgus_app.specs.Dues.{IsDue};
 ghost use Rattle.semgus_app.specs.Files.{Inputs};
 ghost use Rattle.semgus_app.specs.Outputs.{IsOutput};
-ghost use Rattle.semgus_app.specs.Statements.{Judges};
+ghost use Rattle.elab_core.specs.Judging.{Judges};
 ghost use Rattle.semgus_app.specs.Tasks.{HasBounds, IsHeight, IsSize, most_taken, solve};
 
 use crate::answer::answer;
@@ -13,9 +12,9 @@ use crate::contents::Contents;
 use crate::due::Due;
 use crate::judge::{FILE_LIMIT, judge};
 use crate::lines::{cannot_open, read_fault, refusal};
-use crate::problem::Problem;
 use crate::read::read_file;
 use crate::status::{Status, Which};
+use problem_core::Problem;
 use semgus_io::Files;
 use std::alloc::{AllocError, Global};
 
@@ -56,21 +55,20 @@ fn due_after(alloc: Global, command: &Command<'_>, bytes: &[u8]) -> Result<Due, 
 /// What is due for a command and its problem.
 fn due_of(alloc: Global, command: &Command<'_>, problem: &Problem) -> Result<Due, AllocError>
     requires bounds { HasBounds (task_of command.now) }
-    requires constants { HasConstants (parts_of problem.now) }
-    ensures { IfOk result (λ d. (inputs : Inputs) → Judges inputs.problem (Ok (parts_of problem.now)) → IsDue inputs (task_of command.now) d.status d.text) }
+    ensures { IfOk result (λ d. (inputs : Inputs) → Judges inputs.problem (Ok problem.now) → IsDue inputs (task_of command.now) d.status d.text) }
 {
     match command {
-        Command::Solve(_, _, _) => Ok(solved(alloc, problem)?),
+        Command::Solve(_, height, size) => Ok(solved(alloc, problem, *height, *size)?),
     }
 }
 
 /// What is due for `solve`.
-fn solved(alloc: Global, problem: &Problem) -> Result<Due, AllocError>
-    requires { HasConstants (parts_of problem.now) }
-    ensures { IfOk result (λ d. (inputs : Inputs) (file : List ℕ) (height size : ℕ) → IsHeight height → IsSize size → Judges inputs.problem (Ok (parts_of problem.now)) →
-        IsDue inputs (solve file height size) d.status d.text) }
+fn solved(alloc: Global, problem: &Problem, height: u32, size: u32) -> Result<Due, AllocError>
+    requires height { IsHeight height }
+    requires size { IsSize size }
+    ensures { IfOk result (λ d. (inputs : Inputs) (file : List ℕ) → Judges inputs.problem (Ok problem.now) → IsDue inputs (solve file height size) d.status d.text) }
 {
-    match answer(alloc, problem)? {
+    match answer(alloc, problem, height, size)? {
         Some(text) => Ok(Due {
             status: Status::Found,
             text,

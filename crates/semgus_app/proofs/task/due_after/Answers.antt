@@ -5,7 +5,7 @@ use Rattle.semgus_app.proofs.task.due_after.Goals as goal
 pub returns-in_ok-due_of-in-Ok : goal.returns-in_ok-due_of-in-Ok
 returns-in_ok-due_of-in-Ok c =
     let judged = rw c.in-Ok.is at c.in_ok-problem.ensures in
-    c.in_ok-due_of-in-Ok.ensures (record { problem = c.args.bytes.now }) judged.0
+    c.in_ok-due_of-in-Ok.ensures (record { problem = c.args.bytes.now }) judged
 
 pub returns-in_ok-refusal-in-Err : goal.returns-in_ok-refusal-in-Err
 returns-in_ok-refusal-in-Err c =

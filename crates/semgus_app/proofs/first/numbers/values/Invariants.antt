@@ -1,7 +1,0 @@
-use Rattle.std.proofs.Common.{◌≡◌, ◌++◌, drop, option_map}
-use Rattle.semgus_app.specs.First.{values_of}
-use Rattle.semgus_app.proofs.first.numbers.values.Given as goal
-
--- what was read and what is left give the whole
-abbrev pub invariant-loop-form : goal.invariant-loop-form
-invariant-loop-form l = option_map (λ more. l.values ++ more) (values_of (drop l.form-index l.forms)) ≡ values_of l.forms
