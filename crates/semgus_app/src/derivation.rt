@@ -1,13 +1,15 @@
 //! Derivations of the constraints of a problem on a term.
-ghost use Rattle.std.specs.Prelude.{◌≡◌, ◌≤◌, ◌++◌, ◌∷◌, [], map, IfOk};
+ghost use Rattle.std.specs.Prelude.{◌≡◌, ◌≤◌, [], map, IfOk, OnOk};
 ghost use Rattle.term_core.specs.Banks.{IsLive, tree_of};
 ghost use Rattle.problem_core.specs.Derivations.{Within};
 ghost use Rattle.problem_core.specs.Problems.{Solves, fact_on};
 ghost use Rattle.deriv_core.specs.Steps.{tree_steps};
+ghost use Rattle.eval_core.specs.Evaluations.{StandsFor};
+ghost use Rattle.extract_core.specs.Additions.{Adds, HasFact};
 ghost use Rattle.extract_core.specs.Derivings.{IsDerivation};
-ghost use Rattle.semgus_app.specs.Stepping.{AreLive, DeriveEach, IsOf};
-ghost use Rattle.problem_core.specs.declared.parts.Constraint.{Constraint};
-ghost use Rattle.std.specs.Prelude.{List, OnOk};
+ghost use Rattle.extract_core.specs.Searches.{StillServes};
+ghost use Rattle.extract_core.specs.Tidiness.{IsTidy};
+ghost use Rattle.semgus_app.specs.Stepping.{AreLive};
 
 use deriv_core::{Fact, StepId, StepIds, Steps};
 use eval_core::Evaluator;
@@ -27,31 +29,31 @@ fn fact_on(alloc: Global, root: TermId, constraint: &Constraint) -> Result<Fact,
     })
 }
 
-/// Derives one constraint more on a term.
-fn derive_next(
+/// The step of a constraint on a term, after the steps that its first derivation wants were added.
+fn derive_constraint(
     alloc: Global,
-    problem: &Problem,
+    evaluator: &mut Evaluator<'_>,
     height: u32,
     bank: &Bank,
     root: TermId,
     constraint: &Constraint,
-    evaluator: &mut Evaluator<'_>,
     steps: &mut Steps,
 ) -> Result<StepId, AllocError>
-    requires of { IsOf problem.now bank.now evaluator.old }
+    requires stands { StandsFor evaluator.old bank.now }
     requires root { IsLive bank.now root }
+    requires within { Within evaluator.old.signature evaluator.old.rules height (fact_on (tree_of bank.now root) constraint.now) }
     requires low { height ≤ 1000 }
     requires live { AreLive bank.now steps.old }
-    requires within { Within problem.now.signature problem.now.rules height (fact_on (tree_of bank.now root) constraint.now) }
-    requires tidy { (constraints : List Constraint) × (derived : List StepId.StepId) × DeriveEach problem.now height (tree_of bank.now root) constraints (tree_steps bank.now steps.old) (map (λ id. id.0) derived) }
-    ensures of { OnOk result (IsOf problem.now bank.now evaluator.new) }
-    ensures live { OnOk result (AreLive bank.now steps.new) }
-    ensures derived { IfOk result (λ id. (constraints : List Constraint) (derived : List StepId.StepId) → DeriveEach problem.now height (tree_of bank.now root) constraints (tree_steps bank.now steps.old) (map (λ id. id.0) derived)
-        → DeriveEach problem.now height (tree_of bank.now root) (constraints ++ constraint.now ∷ []) (tree_steps bank.now steps.new) (map (λ id. id.0) (derived ++ id ∷ []))) }
+    requires tidy { IsTidy evaluator.old.signature evaluator.old.rules (tree_steps bank.now steps.old) }
+    ensures serves { StillServes evaluator.old evaluator.new bank.now }
+    ensures live { AreLive bank.now steps.new }
+    ensures tidy { IsTidy evaluator.old.signature evaluator.old.rules (tree_steps bank.now steps.new) }
+    ensures added { OnOk result (Adds evaluator.old.signature evaluator.old.rules height (tree_steps bank.now steps.old)
+        (fact_on (tree_of bank.now root) constraint.now) (tree_steps bank.now steps.new)) }
+    ensures fact { IfOk result (λ id. HasFact evaluator.old.signature (tree_steps bank.now steps.new) id.0 (fact_on (tree_of bank.now root) constraint.now)) }
 {
     let fact = fact_on(alloc, root, constraint)?;
-    let id = derive(alloc, evaluator, bank, &fact, height, steps)?;
-    Ok(id)
+    derive(alloc, evaluator, bank, &fact, height, steps)
 }
 
 /// Derives the constraints of a problem on a term that solves it. The numbers of their steps, in order.
@@ -70,19 +72,20 @@ pub fn derive_all(
     ensures live { OnOk result (AreLive bank.now steps.new) }
     ensures derived { IfOk result (λ derived. IsDerivation problem.now height (tree_of bank.now root) (tree_steps bank.now steps.new) (map (λ id. id.0) derived)) }
 {
+    let constraints = problem.constraints();
     let mut evaluator = Evaluator::new(alloc, problem.signature(), problem.rulebook());
     let mut derived = StepIds::new(alloc);
-    for constraint in problem.constraints() {
-        derived.push(derive_next(
+    for constraint in constraints {
+        let id = derive_constraint(
             alloc,
-            problem,
+            &mut evaluator,
             height,
             bank,
             root,
             constraint,
-            &mut evaluator,
             steps,
-        )?)?;
+        )?;
+        derived.push(id)?;
     }
     Ok(derived)
 }

@@ -1,4 +1,5 @@
-ghost use Rattle.std.specs.Prelude.{◌≡◌, ◌<◌, ◌^◌, IfOk, length};
+ghost use Rattle.std.specs.Prelude.{◌≡◌, ◌<◌, ◌^◌, ℕ, List, IfOk, length};
+ghost use Rattle.elab_core.specs.Feeding.{HasRoom, IsJudging};
 ghost use Rattle.elab_core.specs.Judging.{Judges};
 
 use elab_core::{ElabError, Judge};
@@ -15,7 +16,22 @@ pub fn judge(alloc: Global, bytes: &[u8]) -> Result<Result<Problem, Fault>, Allo
     ensures { IfOk result (λ judged. Judges bytes.now judged) }
 {
     let mut judge = Judge::new(alloc);
-    judge.feed(bytes)?;
+    match judge.feed(bytes) {
+        Ok(()) => Ok(judgement(judge)?),
+        Err(_) => Err(wanted_memory(judge)),
+    }
+}
+
+/// A judge that wanted memory is dropped.
+fn wanted_memory(_judge: Judge) -> AllocError {
+    AllocError
+}
+
+/// What a judge answers at the end.
+fn judgement(judge: Judge) -> Result<Result<Problem, Fault>, AllocError>
+    requires { HasRoom judge 0 }
+    ensures { IfOk result (λ judged. (bytes : List ℕ) → IsJudging judge bytes → Judges bytes judged) }
+{
     match judge.finish() {
         Ok(problem) => Ok(Ok(problem)),
         Err(ElabError::Fault(fault)) => Ok(Err(fault)),
