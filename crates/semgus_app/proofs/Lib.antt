@@ -6,3 +6,4 @@ pub mod Outputs
 pub mod Reading
 pub mod Tasks
 pub mod Texts
+pub mod Judged

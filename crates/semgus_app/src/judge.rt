@@ -17,7 +17,7 @@ pub fn judge(alloc: Global, bytes: &[u8]) -> Result<Result<Problem, Fault>, Allo
 {
     let mut judge = Judge::new(alloc);
     match judge.feed(bytes) {
-        Ok(()) => Ok(judgement(judge)?),
+        Ok(()) => judgement(judge),
         Err(_) => Err(wanted_memory(judge)),
     }
 }
