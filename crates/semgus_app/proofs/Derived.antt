@@ -108,10 +108,10 @@ pub going_on : (problem : Parts) (height : ℕ) (bank : List Tree) (t : Tree) (e
 going_on problem height bank t evaluator later steps more constraints i c derived ids id d serves live tidy adds has grown is bound =
     let number = λ (id : StepId). id.0 in
     let tidy' : IsTidy problem.signature problem.rules (tree_steps bank more) =
-        subst (λ sig. IsTidy sig problem.rules (tree_steps bank more)) d.signature (subst (λ rules. IsTidy evaluator.signature rules (tree_steps bank more)) d.rules tidy) in
+    subst (λ sig. IsTidy sig problem.rules (tree_steps bank more)) d.signature (subst (λ rules. IsTidy evaluator.signature rules (tree_steps bank more)) d.rules tidy) in
     let adds' : Adds problem.signature problem.rules height (tree_steps bank steps) (fact_on t c) (tree_steps bank more) =
-        subst (λ sig. Adds sig problem.rules height (tree_steps bank steps) (fact_on t c) (tree_steps bank more)) d.signature
-        (subst (λ rules. Adds evaluator.signature rules height (tree_steps bank steps) (fact_on t c) (tree_steps bank more)) d.rules adds) in
+    subst (λ sig. Adds sig problem.rules height (tree_steps bank steps) (fact_on t c) (tree_steps bank more)) d.signature
+    (subst (λ rules. Adds evaluator.signature rules height (tree_steps bank steps) (fact_on t c) (tree_steps bank more)) d.rules adds) in
     let has' : HasFact problem.signature (tree_steps bank more) id.0 (fact_on t c) = subst (λ sig. HasFact sig (tree_steps bank more) id.0 (fact_on t c)) d.signature has in
     let next = one_more problem.signature problem.rules height t (take i constraints) c (tree_steps bank steps) (tree_steps bank more) (map number derived) id.0 d.each tidy' adds' has' in
     let taken : take i constraints ++ c ∷ [] ≡ take (i + 1) constraints = ap (λ x. take i constraints ++ x ∷ []) is ∙ sym (take_more constraints i c bound) in

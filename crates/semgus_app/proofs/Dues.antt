@@ -1,5 +1,5 @@
 -- What is due says, and that it is one status.
-use Rattle.std.proofs.Common.{◌≡◌, ◌≢◌, ◌⊎◌, ℕ, List, Option, Some, None, Result, Ok, Err, refl, sym, ap, ◌∙◌, subst, inl, inr}
+use Rattle.std.proofs.Common.{◌≡◌, ◌⊎◌, ℕ, List, Some, None, Result, Ok, Err, refl, sym, ◌∙◌, subst, inl, inr}
 use Rattle.std.specs.Option.{ForSome}
 use Rattle.problem_core.specs.Problems.{Parts, IsAnswer}
 use Rattle.problem_core.proofs.Answers.{one_answer}

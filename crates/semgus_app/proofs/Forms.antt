@@ -1,6 +1,6 @@
 -- Words by their number, and words whose first one is a command's name.
 use Rattle.std.proofs.Common.{◌≡◌, ℕ, List, [], ◌∷◌, Option, Some, None, MatchOption, length, slice_get, arith}
-use Rattle.semgus_app.specs.Tasks.{Task, solve, Asks, HaveNoForm}
+use Rattle.semgus_app.specs.Tasks.{solve, Asks, HaveNoForm}
 
 pub two_words : (ws : List (List ℕ)) (a b : List ℕ) → slice_get ws 0 ≡ Some a → slice_get ws 1 ≡ Some b → length ws ≡ 2 → ws ≡ a ∷ b ∷ []
 two_words [] a b p q l = absurd (omega arith)

@@ -1,8 +1,8 @@
 -- What a run that printed the output of its task says of its status, the counts and the bytes of the files.
-use Rattle.std.proofs.Common.{◌≡◌, ◌≢◌, ◌⊎◌, ◌<◌, ◌+◌, ℕ, Bool, List, [], Option, Some, None, Ok, IsTrue, take, refl, sym, ap, ◌∙◌, subst, inl, inr, arith}
+use Rattle.std.proofs.Common.{◌≡◌, ◌≢◌, ◌⊎◌, ◌<◌, ◌+◌, ℕ, Bool, List, Option, Some, None, Ok, IsTrue, take, refl, sym, ap, ◌∙◌, subst, inl, inr, arith}
 use Rattle.std.specs.Option.{ForSome}
 use Rattle.semgus_io.specs.Counts.{Rises, Stays}
-use Rattle.semgus_io.specs.Writes.{Grows, GrowsByPart}
+use Rattle.semgus_io.specs.Writes.{Grows}
 use Rattle.semgus_app.specs.declared.status.Status.{Status}
 use Rattle.semgus_app.specs.declared.status.Status.TheVariants as status
 use Rattle.semgus_app.specs.Dues.{IsDue}

@@ -1,7 +1,10 @@
 -- Words ask for one task at most.
-use Rattle.std.proofs.Common.{◌≡◌, ◌≤◌, ◌^◌, ◌⊎◌, ℕ, List, length, decimal, sym, ap, ◌∙◌, inl, inr, arith}
+use Rattle.std.proofs.Common.{◌≡◌, ◌≤◌, ℕ, List, length, decimal, sym, ap, subst, ◌∙◌, inl, inr, arith}
 use Rattle.std.proofs.lemmas.Fmt.{decimal_injective}
-use Rattle.semgus_app.specs.Tasks.{Task, solve, Asks, AreSolve}
+use Rattle.semgus_app.specs.Tasks.{Task, solve, Asks, AreSolve, HasBounds, IsHeight, IsSize, height_of, size_of}
+use Rattle.semgus_app.specs.declared.status.Status.{Status}
+use Rattle.semgus_app.specs.Dues.{IsDue}
+use Rattle.semgus_app.specs.Files.{Inputs}
 
 same_number : (m n : ℕ) → m ≤ 1000 → n ≤ 1000 → decimal m ≡ decimal n → m ≡ n
 same_number m n a b e = decimal_injective m n (omega arith) (omega arith) e
@@ -28,3 +31,15 @@ same_solve words f g h k n l a b hh kk nn ll = elim a [
 
 pub one_task : (words : List (List ℕ)) (task other : Task) → Asks words task → Asks words other → task ≡ other
 one_task words (solve f h n) (solve g k l) a b = same_solve words f g h k n l a.form b.form a.bounds.0.1 b.bounds.0.1 a.bounds.1.1 b.bounds.1.1
+
+pub height_within : (task : Task) (h : ℕ) → HasBounds task → h ≡ height_of task → IsHeight h
+height_within (solve f k l) h bounds e = subst IsHeight (sym e) bounds.0
+
+pub size_within : (task : Task) (s : ℕ) → HasBounds task → s ≡ size_of task → IsSize s
+size_within (solve f k l) s bounds e = subst IsSize (sym e) bounds.1
+
+-- what is due for `solve` with the bounds of the task is due for the task
+pub due_for : (inputs : Inputs) (task : Task) (h s : ℕ) (state : Status) (text : List ℕ) → h ≡ height_of task → s ≡ size_of task →
+    ((file : List ℕ) → IsDue inputs (solve file h s) state text) → IsDue inputs task state text
+due_for inputs (solve f k l) h s state text e g d =
+    subst (λ n. IsDue inputs (solve f n l) state text) e (subst (λ n. IsDue inputs (solve f h n) state text) g (d f))

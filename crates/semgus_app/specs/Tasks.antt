@@ -21,6 +21,13 @@ AreSolve words file height size = (words ≡ codes "solve" ∷ file ∷ decimal 
 abbrev pub AreForm : List (List ℕ) → Task → Type 0
 AreForm words (solve file height size) = AreSolve words file height size
 
+-- the bound of a task on the height of derivations, and on the size of terms
+abbrev pub height_of : Task → ℕ
+height_of (solve file height size) = height
+
+abbrev pub size_of : Task → ℕ
+size_of (solve file height size) = size
+
 -- the numbers of the task are within their bounds
 abbrev pub HasBounds : Task → Type 0
 HasBounds (solve file height size) = IsHeight height × IsSize size

@@ -1,6 +1,6 @@
 ghost use Rattle.std.specs.Prelude.{◌≡◌, ◌≢◌, ◌≤◌, ℕ, List, Some, MatchOption, slice_get, codes, decimal};
 ghost use Rattle.semgus_app.specs.Commands.{task_of};
-ghost use Rattle.semgus_app.specs.Tasks.{Asks, HaveNoForm, problem_file, solve};
+ghost use Rattle.semgus_app.specs.Tasks.{Asks, HaveNoForm, height_of, problem_file, size_of, solve};
 
 use itoa::Buffer;
 use semgus_io::Words;
@@ -31,6 +31,24 @@ impl<'a> Command<'a> {
     {
         match self {
             Command::Solve(file, _, _) => file,
+        }
+    }
+
+    /// The bound on the height of derivations.
+    pub fn height(&self) -> u32
+        ensures { result ≡ height_of (task_of self.now) }
+    {
+        match self {
+            Command::Solve(_, height, _) => *height,
+        }
+    }
+
+    /// The bound on the size of terms.
+    pub fn size(&self) -> u32
+        ensures { result ≡ size_of (task_of self.now) }
+    {
+        match self {
+            Command::Solve(_, _, size) => *size,
         }
     }
 }

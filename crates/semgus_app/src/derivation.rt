@@ -76,15 +76,7 @@ pub fn derive_all(
     let mut evaluator = Evaluator::new(alloc, problem.signature(), problem.rulebook());
     let mut derived = StepIds::new(alloc);
     for constraint in constraints {
-        let id = derive_constraint(
-            alloc,
-            &mut evaluator,
-            height,
-            bank,
-            root,
-            constraint,
-            steps,
-        )?;
+        let id = derive_constraint(alloc, &mut evaluator, height, bank, root, constraint, steps)?;
         derived.push(id)?;
     }
     Ok(derived)

@@ -57,9 +57,8 @@ fn due_of(alloc: Global, command: &Command<'_>, problem: &Problem) -> Result<Due
     requires bounds { HasBounds (task_of command.now) }
     ensures { IfOk result (λ d. (inputs : Inputs) → Judges inputs.problem (Ok problem.now) → IsDue inputs (task_of command.now) d.status d.text) }
 {
-    match command {
-        Command::Solve(_, height, size) => Ok(solved(alloc, problem, *height, *size)?),
-    }
+    let (height, size) = (command.height(), command.size());
+    Ok(solved(alloc, problem, height, size)?)
 }
 
 /// What is due for `solve`.

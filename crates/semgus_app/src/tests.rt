@@ -4,14 +4,17 @@ use std::alloc::AllocError;
 use std::process::Abort;
 use std::test::Fail;
 
-const REFUSED: Status = Status::Refused(
-    Which::Problem,
-    Fault {
-        place: 0,
-        reason: 13,
-        limit: 0,
-    },
-);
+/// The status of a problem file that is refused.
+fn refused(place: u32, reason: u8) -> Status {
+    Status::Refused(
+        Which::Problem,
+        Fault {
+            place,
+            reason,
+            limit: 0,
+        },
+    )
+}
 
 const TINY: &str = "(declare-term-types ((E 0)) (($a)))
 (define-funs-rec ((S ((t E) (r Int)) Bool)) ((! (match t (($a (= r 1)))) :input () :output (r))))
@@ -42,8 +45,19 @@ const LOOP: &str = "(declare-term-types ((E 0)) (($loop)))
 (check-synth)
 ";
 
+const LOOP_ANSWER: &str = "(answer 1)
+(term $loop)
+(size 1)
+(node 0 $loop)
+(step 0 S 0 0 (0 0) ())
+(step 1 S 0 1 (1 2 0) (0))
+(step 2 S 0 1 (2 4 2) (1))
+(step 3 S 0 1 (3 6 4) (2))
+(derived 0 3)
+";
+
 /// Words and the text of the file that they name, with the status and the output.
-const RUNS: [(&str, &str, &str, Status, &str); 5] = [
+const RUNS: [(&str, &str, &str, Status, &str); 7] = [
     (
         "solve tiny.sl 1 1",
         "tiny.sl",
@@ -65,12 +79,20 @@ const RUNS: [(&str, &str, &str, Status, &str); 5] = [
         Status::NoTerm,
         "none\n",
     ),
+    ("solve tiny.sl", "tiny.sl", TINY, Status::Found, TINY_ANSWER),
     (
         "solve loop.sl 4 1",
         "loop.sl",
         LOOP,
-        REFUSED,
-        "refused 0 13\n",
+        Status::Found,
+        LOOP_ANSWER,
+    ),
+    (
+        "solve loop.sl 3 1",
+        "loop.sl",
+        LOOP,
+        Status::NoTerm,
+        "none\n",
     ),
     (
         "solve absent.sl 1 1",
@@ -82,7 +104,7 @@ const RUNS: [(&str, &str, &str, Status, &str); 5] = [
 ];
 
 /// Texts of files, with the status and the output of `solve` with bounds of 1.
-const ANSWERS: [(&str, Status, &str); 10] = [
+const ANSWERS: [(&str, Status, &str); 9] = [
     (TINY, Status::Found, TINY_ANSWER),
     (TINY_WITH_2, Status::NoTerm, "none\n"),
     // Two rules of one constructor, with different outputs.
@@ -154,64 +176,62 @@ const ANSWERS: [(&str, Status, &str); 10] = [
         Status::NoTerm,
         "none\n",
     ),
-    ("", REFUSED, "refused 0 13\n"),
 ];
 
-/// Near misses of the first form.
-const NEAR_MISSES: [&str; 11] = [
-    "(declare-term-types ((E 0) (F 0)) (($a) ()))
+/// Texts that are refused, with the place, the reason and the line.
+const REFUSALS: [(&str, u32, u8, &str); 7] = [
+    ("", 0, 60, "refused 0 60\n"),
+    ("(", 1, 3, "refused 1 3\n"),
+    (
+        "(declare-term-types ((E 0)) (($a)))
+(define-funs-rec ((S ((t E) (r Int)) Bool)) ((! (match t (($a (exists ((v Int)) (= r 1))))) :input () :output (r))))
+",
+        107,
+        42,
+        "refused 107 42\n",
+    ),
+    (
+        "(declare-term-types ((E 0)) (($a)))
+(define-funs-rec ((S ((t E) (x Int) (r Int)) Bool)) ((! (match t (($a (exists ((v Int)) (and (S t v r) (= v 1)))))) :input (x) :output (r))))
+",
+        129,
+        40,
+        "refused 129 40\n",
+    ),
+    (
+        "(declare-term-types ((E 0)) (($a)))
 (define-funs-rec ((S ((t E) (r Int)) Bool)) ((! (match t (($a (= r 1)))) :input () :output (r))))
 (synth-fun f () E)
-(check-synth)",
-    "(declare-term-types ((E 0)) (($a $a)))
-(define-funs-rec ((S ((t E) (r Int)) Bool)) ((! (match t (($a (= r 1)))) :input () :output (r))))
-(synth-fun f () E)
-(check-synth)",
-    "(declare-term-types ((Int 0)) (($a)))
-(define-funs-rec ((S ((t Int) (r Int)) Bool)) ((! (match t (($a (= r 1)))) :input () :output (r))))
-(synth-fun f () Int)
-(check-synth)",
-    "(declare-term-types)
-(define-funs-rec ((S ((t E) (r Int)) Bool)) ((! (match t (($a (= r 1)))) :input () :output (r))))
-(synth-fun f () E)
-(check-synth)",
-    "(declare-term-types ((E 0)) (($a)))
-(define-funs-rec ((S ((t E) (r Int)) Bool)) ((! (match t (($a (= r 170141183460469231731687303715884105728)))) :input () :output (r))))
-(synth-fun f () E)
-(check-synth)",
-    "(declare-term-types ((E 0)) (($a)))
-(define-funs-rec ((S ((t E) (let Int) (r Int)) Bool)) ((! (match t (($a (= r 1)))) :input (let) :output (r))))
-(synth-fun f () E)
-(check-synth)",
-    "(declare-term-types ((E 0)) (($a)))
-(define-funs-rec ((S ((t E) (r Int)) Bool)) ((! (match t (($a (= r 1)))) :output (r) :input ())))
-(synth-fun f () E)
-(check-synth)",
-    "(declare-term-types ((E 0)) (($a)))
-(define-funs-rec ((S ((t E) (r Int)) Bool)) ((! (match t (($b (= r 1)))) :input () :output (r))))
-(synth-fun f () E)
-(check-synth)",
-    "(declare-term-types ((E 0)) (($a)))
-(define-funs-rec ((S ((t E) (r Int)) Bool)) ((! (match t (($a (= r 1)))) :input () :output (r))))
-(synth-fun f () E)
-(constraint (S f (- 1)))
-(check-synth)",
-    "(declare-term-types ((E 0)) (($a)))
-(define-funs-rec ((S ((t E) (r Int)) Bool)) ((! (match t (($a (= r 1)))) :input () :output (r))))
-(synth-fun f () E)
+(constraint (forall ((r Int)) (S f r)))
 (check-synth)
-(check-synth)",
-    "(declare-term-types ((E 0)) (($a)))
+",
+        165,
+        10,
+        "refused 165 10\n",
+    ),
+    (
+        "(declare-term-types ((E 0)) (($a)))
 (define-funs-rec ((S ((t E) (r Int)) Bool)) ((! (match t (($a (= r 1)))) :input () :output (r))))
 (synth-fun f () E)
-(constraint (S f 1))",
+(constraint (S f 170141183460469231731687303715884105728))
+(check-synth)
+",
+        170,
+        31,
+        "refused 170 31\n",
+    ),
+    (
+        "(declare-term-types ((E 0)) (($a $a)))",
+        33,
+        21,
+        "refused 33 21\n",
+    ),
 ];
 
 /// Words that have none of the forms.
-const BAD_WORDS: [&str; 10] = [
+const BAD_WORDS: [&str; 9] = [
     "",
     "solve",
-    "solve tiny.sl",
     "solve tiny.sl 0 5",
     "solve tiny.sl 01 5",
     "solve tiny.sl 1001 1",
@@ -266,16 +286,11 @@ fn files_are_answered(rt: HostRuntime) -> Result<(), Fail> {
 }
 
 #[test]
-fn near_misses_are_refused(rt: HostRuntime) -> Result<(), Fail> {
-    for text in NEAR_MISSES {
+fn files_are_refused(rt: HostRuntime) -> Result<(), Fail> {
+    for (text, place, reason, output) in REFUSALS {
         let mut files = file_of(&rt, text)?;
-        check(
-            &rt,
-            "solve tiny.sl 1 1",
-            &mut files,
-            REFUSED,
-            "refused 0 13\n",
-        )?;
+        let status = refused(place, reason);
+        check(&rt, "solve tiny.sl 1 1", &mut files, status, output)?;
     }
     Ok(())
 }

@@ -1,4 +1,4 @@
-use Rattle.std.proofs.Common.{List, ℕ, Some, subst}
+use Rattle.std.proofs.Common.{List, ℕ, subst}
 use Rattle.semgus_app.proofs.Dues.{some_same}
 use Rattle.semgus_app.specs.Outputs.{IsPrinted}
 use Rattle.semgus_app.proofs.Outcomes.{Ran, bad_words_clause, output_clause, memory_clause, due_clause, complete_clause, found_clause, no_term_clause, cannot_open_clause, read_fault_clause, absent_clause, told_clause, line_clause, printed_line}
