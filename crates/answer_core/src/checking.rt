@@ -18,7 +18,7 @@ use crate::subterms::{are_subterms, is_same};
 use deriv_core::Step;
 use grammar_core::NtId;
 use problem_core::{Constraint, Problem};
-use sig_core::{Kind, Param, RelId, Signature, Value};
+use sig_core::{Kind, Param, RelId, Signature, Value, params_of};
 use term_core::{Bank, TermId};
 
 /// Whether the answer is one to the problem within the height: the first test that fails, in the order of the verdicts.
@@ -104,17 +104,6 @@ fn has_fact(
             step.values.as_slice(),
             constraint.args.as_slice(),
         )
-}
-
-/// The parameters of a relation; none of one that the signature doesn't know.
-fn params_of(signature: &Signature, relation: RelId) -> &[Param]
-    ensures { map (λ p. p.kind) result.now ≡ kinds_of signature.now relation }
-{
-    if relation.0 < signature.relations() {
-        signature.relation(relation).params.as_slice()
-    } else {
-        &[]
-    }
 }
 
 /// Whether the first of the values, one for each parameter that isn't a term, are these.

@@ -2,12 +2,13 @@
 ghost use Rattle.std.specs.Prelude.{◌≡◌, length};
 ghost use Rattle.answer_core.specs.Shapes.{due_after, has_items, kind_due, kind_named, may_come, role_in};
 
-use crate::forms::{head_of, is_word, parts_of, text_of};
+use crate::forms::{head_of, parts_of, text_of};
 use sexpr_core::Sexpr;
+use sig_core::is_word;
 
 /// What a form of an answer tells.
 #[derive(Clone, Copy, Debug, PartialEq, Eq)]
-pub(crate) enum Kind {
+pub enum Kind {
     /// the version of the text
     Answer,
     Term,
@@ -20,7 +21,7 @@ pub(crate) enum Kind {
 
 /// What may come next: one form, or those of a part of the text and of the parts after it.
 #[derive(Clone, Copy, Debug, PartialEq, Eq)]
-pub(crate) enum Due {
+pub enum Due {
     Answer,
     Term,
     Size,
@@ -31,7 +32,7 @@ pub(crate) enum Due {
 
 /// What is due in a place of a form.
 #[derive(Clone, Copy, Debug, PartialEq, Eq)]
-pub(crate) enum Role {
+pub enum Role {
     Version,
     Number,
     Symbol,

@@ -17,6 +17,7 @@ mod subterms;
 
 pub use answer::{Answer, AnswerError, AnswerFault, Verdict};
 pub use checking::check;
+pub use kinds::{Due, Kind, Role};
 pub use laws::one_verdict;
 pub use printing::print_answer;
 pub use reading::read_answer;

@@ -4,8 +4,8 @@ use crate::texts::{Said, said_of, said_of_narrow};
 use answer_core::{Verdict, print_answer, read_answer};
 use deriv_core::BadStep;
 use problem_core::Problem;
-use sexpr_core::read_whole;
 use sig_core::Bytes;
+use spelling_tests::forms_of;
 use std::alloc::{AllocError, Global};
 use std::process::Abort;
 use std::test::Fail;
@@ -112,7 +112,7 @@ fn printed(alloc: Global, problem: &Problem, text: &[u8]) -> Result<Option<Bytes
     if text.len() > 1000 {
         return Ok(None);
     }
-    let Some(forms) = read_whole(alloc, text)? else {
+    let Some(forms) = forms_of(alloc, text)? else {
         return Ok(None);
     };
     let Ok(answer) = read_answer(alloc, problem, &forms, 0) else {

@@ -1,7 +1,7 @@
 use crate::problems::{narrow_problem, problem};
 use answer_core::{AnswerError, AnswerFault, Verdict, check, read_answer};
 use problem_core::Problem;
-use sexpr_core::read_whole;
+use spelling_tests::forms_of;
 use std::alloc::{AllocError, Global};
 
 /// What is said of an answer text.
@@ -16,7 +16,7 @@ fn judged(alloc: Global, problem: &Problem, text: &[u8], height: u32) -> Result<
     if text.len() > 1000 {
         return Ok(Said::Nothing);
     }
-    let Some(forms) = read_whole(alloc, text)? else {
+    let Some(forms) = forms_of(alloc, text)? else {
         return Ok(Said::Nothing);
     };
     match read_answer(alloc, problem, &forms, text.len() as u32) {

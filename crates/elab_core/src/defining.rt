@@ -9,7 +9,7 @@ ghost use Rattle.syntax_core.specs.Syntax.{functions_of};
 ghost use Rattle.name_core.specs.declared.command_faults.Reading.TheVariants as read;
 ghost use Rattle.name_core.specs.Faults.{first, shapes};
 ghost use Rattle.name_core.specs.Limits.{limits};
-ghost use Rattle.name_core.specs.Names.{names, term_pairs};
+ghost use Rattle.name_core.specs.Names.{names};
 ghost use Rattle.name_core.specs.Readings.{reading_of};
 ghost use Rattle.sort_core.specs.Errors.{IsDue};
 ghost use Rattle.sort_core.specs.Sorts.{declaration_faults};
@@ -20,42 +20,11 @@ ghost use Rattle.elab_core.specs.Soundness.{IsSoundState};
 
 use crate::flow::add_cases;
 use crate::stated::StatedParts;
-use name_core::{Reading, is_plain, limit_fault, name_fault, reading_of};
+use name_core::{Reading, limit_fault, name_fault, reading_of};
 use sexpr_core::Sexpr;
-use sort_core::{ElabError, open_functions};
+use sort_core::{ElabError, declarations_fault, open_functions};
 use std::alloc::{AllocError, Global};
-use syntax_core::{Fault, Function, Functions, Head, Pair, refusal};
-
-/// How many of the parameters are terms.
-fn term_count(pairs: &[Pair]) -> usize
-    ensures { result ≡ length (term_pairs pairs.now) }
-{
-    pairs.iter().filter(|pair| !is_plain(*pair)).count()
-}
-
-/// The fault of a declaration that hasn't exactly one parameter for terms.
-fn declaration_fault(function: &Function) -> Option<Fault>
-    ensures { result ≡ first (declaration_faults function.now) }
-{
-    if term_count(function.declaration.params.as_slice()) == 1 {
-        None
-    } else {
-        Some(refusal(function.declaration.place, 30))
-    }
-}
-
-/// The leftmost fault of declarations.
-#[tactic(auto, using(name_core::proofs::Firsts::firsts))]
-fn declarations_fault(functions: &[Function]) -> Option<Fault>
-    ensures { result ≡ first (flat_map declaration_faults functions.now) }
-{
-    for function in functions {
-        if let Some(fault) = declaration_fault(function) {
-            return Some(fault);
-        }
-    }
-    None
-}
+use syntax_core::{Fault, Functions, Head};
 
 /// The functions that a command was read as, none if it is another one.
 fn functions_in(alloc: Global, reading: Reading) -> Functions

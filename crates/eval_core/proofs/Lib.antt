@@ -1,5 +1,4 @@
 pub mod Alike
-pub mod Callees
 pub mod Congruent
 pub mod Deciding
 pub mod Facts

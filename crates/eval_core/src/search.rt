@@ -7,7 +7,7 @@ ghost use Rattle.eval_core.specs.Evaluations.{AreTrueOf, IsAccepted};
 ghost use Rattle.eval_core.specs.Outcomes.{AreInputs};
 ghost use Rattle.eval_core.specs.RuleInstances.{instances_of};
 ghost use Rattle.eval_core.specs.Runs.{after_atom, after_atoms, after_call, after_call_on, first_run, outcomes_at, outcomes_of_rule};
-ghost use Rattle.eval_core.specs.Searches.{IsReady, IsReadyFor, IsTermAt};
+ghost use Rattle.eval_core.specs.Searches.{IsReady, IsReadyFor};
 ghost use Rattle.eval_core.specs.Tables.{IsKept};
 
 use crate::merge::merge;
@@ -16,7 +16,7 @@ use crate::run::{
     RuleInstances, Run, Runs, after_fills, after_tests, put_calls, put_instances, put_outcomes,
 };
 use crate::table::{Kept, Key, Table};
-use rule_core::{Atom, Call, Rule, Rulebook, Who};
+use rule_core::{Atom, Call, Rule, Rulebook, term_at};
 use sig_core::{RelId, Signature, Value};
 use std::alloc::{AllocError, Global};
 use term_core::{Bank, TermId};
@@ -249,16 +249,5 @@ impl Search<'_> {
             outcomes.as_slice(),
             next,
         )
-    }
-}
-
-/// The term itself, or the child with this number; none where there is no such child.
-fn term_at(bank: &Bank, id: TermId, who: Who) -> Option<TermId>
-    requires { IsLive bank.now id }
-    ensures { IsTermAt bank.now id who result }
-{
-    match who {
-        Who::Own => Some(id),
-        Who::Child(child) => items::at(bank.kids(id), usize::from(child)).copied(),
     }
 }

@@ -4,6 +4,7 @@ ghost use Rattle.sig_core.specs.Names.{same_name};
 ghost use Rattle.expr_core.specs.Names.{operator_name, operator_named, number_operator_named};
 
 use crate::expr::Op;
+use sig_core::is_word;
 
 /// The operator's name.
 pub fn name_of(op: Op) -> &'static [u8]
@@ -83,10 +84,4 @@ fn number_operator_named(name: &[u8]) -> Option<Op>
     } else {
         None
     }
-}
-
-fn is_word(name: &[u8], word: &[u8]) -> bool
-    ensures { result ≡ same_name word.now name.now }
-{
-    word == name
 }

@@ -2,10 +2,9 @@
 ghost use Rattle.std.specs.Prelude.{◌≡◌, IfOk, OnOk};
 ghost use Rattle.extract_core.specs.Places.{ArePlaces, IsPut, fact_of, number_in};
 
-use crate::facts::{count_plain, params_of};
 use deriv_core::{Fact, Step, Steps};
 use indexmap::IndexMap;
-use sig_core::{Signature, Values};
+use sig_core::{Signature, Values, count_plain, params_of};
 use std::alloc::{AllocError, Global};
 
 /// The number of a step under its fact.

@@ -9,7 +9,7 @@ use crate::ids::{NtId, NtIds};
 use crate::marks::Marks;
 use crate::production::{Nonterminal, Production};
 use items::Items;
-use sig_core::{Bytes, ConId, Signature, TypeId};
+use sig_core::{ConId, Signature, TypeId, bytes_of};
 use std::alloc::{AllocError, Global};
 
 /// Whether a nonterminal has this name.
@@ -32,10 +32,8 @@ pub(crate) fn nonterminal_of(
 ) -> Result<Nonterminal, AllocError>
     ensures { IfOk result (λ made. made ≡ record { name = name.now; owner = owner; productions = [] }) }
 {
-    let mut kept = Bytes::new(alloc);
-    kept.append(name)?;
     Ok(Nonterminal {
-        name: kept,
+        name: bytes_of(alloc, name)?,
         owner,
         productions: Items::new(alloc),
     })

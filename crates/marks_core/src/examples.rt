@@ -7,8 +7,7 @@ ghost use Rattle.marks_core.specs.Tables.{has_inputs};
 
 use items::Items;
 use problem_core::Problem;
-use rule_core::params_of;
-use sig_core::{Kind, Param, Sort, Value, Values};
+use sig_core::{Kind, Param, Sort, Value, Values, inputs_of, params_of};
 use std::alloc::{AllocError, Global};
 
 /// The inputs of each example, in order.
@@ -24,27 +23,6 @@ pub(crate) fn examples_of(alloc: Global, problem: &Problem) -> Result<Items<Valu
         examples.push(inputs)?;
     }
     Ok(examples)
-}
-
-/// Of the values of all parameters that aren't terms, those of the inputs.
-fn inputs_of(alloc: Global, params: &[Param], args: &[Value]) -> Result<Values, AllocError>
-    ensures { IfOk result (λ inputs. inputs ≡ inputs_of (map (λ p. p.kind) params.now) args.now) }
-{
-    let mut inputs = Values::new(alloc);
-    let mut rest = args;
-    for param in params {
-        if let Kind::Term(_) = param.kind {
-            continue;
-        }
-        let Some((value, others)) = rest.split_first() else {
-            return Ok(inputs);
-        };
-        if let Kind::Input(_) = param.kind {
-            inputs.push(*value)?;
-        }
-        rest = others;
-    }
-    Ok(inputs)
 }
 
 /// Whether there is one value of the right sort for each input among the parameters.

@@ -7,8 +7,7 @@ ghost use Rattle.marks_core.specs.Tables.{probe_with, probes_at, probes_by_type,
 use crate::examples::{examples_of, has_inputs};
 use items::Items;
 use problem_core::Problem;
-use rule_core::params_of;
-use sig_core::{Kind, Param, RelId, Signature, TypeId, Value, Values};
+use sig_core::{Kind, Param, RelId, Signature, TypeId, Value, Values, params_of};
 use std::alloc::{AllocError, Global};
 use std::marker::Model;
 

@@ -13,9 +13,9 @@ use crate::pairs::is_plain;
 use crate::type_names::{has_symbol, is_sort_name};
 use rule_core::Names;
 use sexpr_core::Atom;
-use sig_core::{Bytes, RelId, Signature, is_reserved};
+use sig_core::{Bytes, RelId, Signature, is_reserved, is_word};
 use std::alloc::{AllocError, Global};
-use syntax_core::{Case, Definition, Fault, Function, Pair, Symbols, is_word, refusal};
+use syntax_core::{Case, Definition, Fault, Function, Pair, Symbols, refusal};
 
 /// Whether one of the pairs has this name.
 #[tactic(auto, using(crate::proofs::Having::havings))]

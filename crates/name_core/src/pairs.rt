@@ -2,7 +2,8 @@
 ghost use Rattle.std.specs.Prelude.{◌≡◌};
 ghost use Rattle.name_core.specs.Names.{is_plain, is_sort};
 
-use syntax_core::{Pair, is_word};
+use sig_core::is_word;
+use syntax_core::Pair;
 
 /// Whether the name is that of a sort.
 pub(crate) fn is_sort(name: &[u8]) -> bool

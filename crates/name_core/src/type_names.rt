@@ -7,11 +7,9 @@ ghost use Rattle.name_core.specs.Faults.{first, found};
 ghost use Rattle.name_core.specs.Names.{constructors_in, has, sort_names, taken_name, texts, types_names, unknown_name};
 
 use sexpr_core::{Atom, Sexpr};
-use sig_core::Signature;
+use sig_core::{Signature, is_word};
 use std::alloc::{AllocError, Global};
-use syntax_core::{
-    Fault, Pattern, Patterns, Symbols, constructors_in, is_word, refusal, type_names,
-};
+use syntax_core::{Fault, Pattern, Patterns, Symbols, constructors_in, refusal, type_names};
 
 /// Whether one of the symbols has this name.
 #[tactic(auto, using(crate::proofs::Having::havings))]

@@ -2,8 +2,8 @@
 ghost use Rattle.std.specs.Prelude.{◌≤◌};
 
 use name_core::{limit_fault, name_fault, reading_of};
-use sexpr_core::read_whole;
 use sig_core::{SigError, Signature};
+use spelling_tests::forms_of;
 use std::alloc::{AllocError, Global};
 use syntax_core::{Fault, Head};
 
@@ -29,7 +29,7 @@ pub(crate) fn limit_of(
     if text.len() > 100_000 {
         return Ok(None);
     }
-    let Some(forms) = read_whole(alloc, text)? else {
+    let Some(forms) = forms_of(alloc, text)? else {
         return Ok(None);
     };
     let Some(form) = forms.get(0) else {
@@ -53,7 +53,7 @@ pub(crate) fn name_of(
     if text.len() > 1000 {
         return Ok(None);
     }
-    let Some(forms) = read_whole(alloc, text)? else {
+    let Some(forms) = forms_of(alloc, text)? else {
         return Ok(None);
     };
     let Some(form) = forms.get(0) else {

@@ -7,22 +7,8 @@ ghost use Rattle.eval_core.specs.Outcomes.{AreInputs};
 ghost use Rattle.outcome_tests.specs.Rules.{IsShort};
 
 use rule_core::Rule;
-use sig_core::{Kind, Param, RelId, Signature, Sort, TypeId, Value};
+use sig_core::{Kind, Param, RelId, Signature, Sort, TypeId, Value, count_plain};
 use std::process::Abort;
-
-/// The number of parameters that aren't terms.
-fn count_plain(params: &[Param]) -> usize
-    ensures { result ≡ length (plain_sorts (map (λ p. p.kind) params.now)) }
-{
-    let mut count = 0;
-    for param in params {
-        match param.kind {
-            Kind::Term(_) => {}
-            Kind::Input(_) | Kind::Output(_) => count += 1,
-        }
-    }
-    count
-}
 
 /// Whether the first term among the parameters is of this type.
 fn is_on(params: &[Param], owner: TypeId) -> bool

@@ -1,5 +1,6 @@
 pub mod Equations
 pub mod Calls
+pub mod Children
 pub mod Determined
 pub mod Flowing
 pub mod Arguments
@@ -7,3 +8,4 @@ pub mod Slotted
 pub mod Numbered
 pub mod Handed
 pub mod Accepted
+pub mod Faultless

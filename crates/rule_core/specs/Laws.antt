@@ -29,3 +29,7 @@ pub record Flows (sig : Declarations) (rule : Rule) (known : List ℕ) (atoms : 
 -- so it is in a rule without a fault, where the inputs are known at first
 abbrev pub AcceptedFlows : Type 0
 AcceptedFlows = (sig : Declarations) (rule : Rule) → flow_fault sig rule ≡ None → Flows sig rule (input_slots (kinds_of sig rule.relation)) rule.atoms
+
+-- and a rule in which it is so has no fault
+abbrev pub FlowingAccepted : Type 0
+FlowingAccepted = (sig : Declarations) (rule : Rule) → Flows sig rule (input_slots (kinds_of sig rule.relation)) rule.atoms → flow_fault sig rule ≡ None

@@ -15,7 +15,7 @@ ghost use Rattle.rule_core.specs.Rulebooks.{IsSmall, HasSmallParts, IsRuleOf};
 use crate::rule::{Atom, Call, Rule, Var, Who};
 use expr_core::Expr;
 use items::Items;
-use sig_core::{Bytes, ConId, Kind, Param, RelId, Signature, Sort, TypeId};
+use sig_core::{Bytes, ConId, Kind, Param, RelId, Signature, Sort, TypeId, params_of};
 use std::alloc::{AllocError, Global};
 use thiserror::Error;
 
@@ -93,17 +93,6 @@ fn fault_at_atom(reason: u8, atom: u32) -> FlowFault
         reason,
         atom,
         slot: 0,
-    }
-}
-
-/// The parameters of a relation; none of one that the signature doesn't know.
-pub fn params_of<'s>(signature: &'s Signature, relation: RelId) -> &'s [Param]
-    ensures { map (λ p. p.kind) result.now ≡ kinds_of signature.now relation }
-{
-    if relation.0 < signature.relations() {
-        signature.relation(relation).params.as_slice()
-    } else {
-        &[]
     }
 }
 

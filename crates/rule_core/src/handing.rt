@@ -6,10 +6,9 @@ ghost use Rattle.sig_core.specs.Signatures.{kinds_of, input_slots};
 ghost use Rattle.expr_core.specs.declared.expr.Expr.{out-Expr};
 ghost use Rattle.rule_core.specs.Flow.{names_slot, calls_on, TakesInputs};
 
-use crate::flow::params_of;
 use crate::rule::{Atom, Rule, Who};
 use expr_core::Expr;
-use sig_core::{Kind, Param, Signature};
+use sig_core::{Kind, Param, Signature, params_of};
 
 /// Whether each call of the rule on the child and on the term itself takes exactly the inputs of the rule's relation.
 pub(crate) fn rule_hands_on(signature: &Signature, rule: &Rule, child: usize) -> bool

@@ -1,7 +1,8 @@
-ghost use Rattle.rule_core.specs.Laws.{AcceptedFlows};
+ghost use Rattle.rule_core.specs.Laws.{AcceptedFlows, FlowingAccepted};
 
-/// In a rule without a flow fault each atom fits and uses known slots alone, and in the end each slot is known. The
-/// function does nothing.
+/// A rule has no flow fault exactly where each atom fits and uses known slots alone, and in the end each slot is known.
+/// The function does nothing.
 pub fn flow_laws()
-    ensures { AcceptedFlows }
+    ensures accepted { AcceptedFlows }
+    ensures flowing { FlowingAccepted }
 {}

@@ -7,8 +7,10 @@ mod laws;
 mod numbers;
 mod rule;
 mod rulebook;
+mod terms;
 
-pub use flow::{AddError, FlowFault, input_slots, is_known, learn, params_of};
+pub use flow::{AddError, FlowFault, input_slots, is_known, learn};
 pub use laws::flow_laws;
 pub use rule::{Atom, Atoms, Call, Names, Rule, Var, Vars, Who};
 pub use rulebook::Rulebook;
+pub use terms::term_at;

@@ -1,9 +1,10 @@
+pub mod Checking
 pub mod Derived
 pub mod Dues
 pub mod Forms
 pub mod Outcomes
 pub mod Outputs
 pub mod Reading
+pub mod Spellings
 pub mod Tasks
 pub mod Texts
-pub mod Judged

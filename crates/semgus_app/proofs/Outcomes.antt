@@ -1,20 +1,26 @@
 -- What a run that printed the output of its task says of its status, the counts and the bytes of the files.
-use Rattle.std.proofs.Common.{◌≡◌, ◌≢◌, ◌⊎◌, ◌<◌, ◌+◌, ℕ, Bool, List, Option, Some, None, Ok, IsTrue, take, refl, sym, ap, ◌∙◌, subst, inl, inr, arith}
+use Rattle.std.proofs.Common.{◌≡◌, ◌≢◌, ◌⊎◌, ◌<◌, ◌+◌, ℕ, Bool, List, [], Option, Some, None, Ok, IsTrue, take, refl, sym, ap, ◌∙◌, subst, inl, inr, arith}
 use Rattle.std.specs.Option.{ForSome}
 use Rattle.semgus_io.specs.Counts.{Rises, Stays}
 use Rattle.semgus_io.specs.Writes.{Grows}
 use Rattle.semgus_app.specs.declared.status.Status.{Status}
 use Rattle.semgus_app.specs.declared.status.Status.TheVariants as status
 use Rattle.semgus_app.specs.Dues.{IsDue}
-use Rattle.problem_core.specs.Problems.{Parts, IsAnswer}
+use Rattle.grammar_core.specs.Grammars.{Lang, start}
+use Rattle.problem_core.specs.Problems.{Parts, IsAnswer, Solves}
+use Rattle.problem_core.specs.Texts.{problem_text}
+use Rattle.answer_core.specs.Readings.{TreeAnswer}
+use Rattle.semgus_app.specs.declared.check.Checked.TheVariants as checked
 use Rattle.semgus_app.specs.Answers.{IsAnswerText}
-use Rattle.semgus_app.specs.Files.{Held, Inputs, AreRead, AreTold, Tell, WereRead, IsReached, as_problem}
-use Rattle.semgus_app.specs.Lines.{cannot_open_line, read_fault_line, none_line, line_of}
+use Rattle.semgus_app.specs.Checks.{Reads}
+use Rattle.semgus_app.specs.Files.{Held, Inputs, AreRead, AreTold, Tell, WereRead, IsReached, as_problem, as_second}
+use Rattle.semgus_app.specs.Lines.{cannot_open_line, read_fault_line, none_line, valid_line, line_of}
 use Rattle.elab_core.specs.Judging.{Judges}
 use Rattle.semgus_app.specs.Outputs.{IsOutput, IsPrinted, NoneRose, due, cannot_open, read_fault}
 use Rattle.semgus_app.specs.Statuses.{IsJudged}
-use Rattle.semgus_app.specs.Tasks.{Task, NamedFile, Asks, solve, problem_file}
-use Rattle.semgus_app.proofs.Dues.{due_judged, due_with, found_due, none_due, due_line, some_same, none_some}
+use Rattle.semgus_app.specs.Tasks.{Task, NamedFile, Asks, solve, show, check, problem_file, second_file}
+use Rattle.semgus_app.proofs.Checking.{valid_solves}
+use Rattle.semgus_app.proofs.Dues.{due_judged, due_with, found_due, none_due, shown_due, valid_due, due_line, some_same, none_some}
 use Rattle.semgus_app.proofs.Tasks.{one_task}
 
 rose_stays : (old new : ℕ) → Rises old new → Stays old new → ⊥
@@ -38,6 +44,12 @@ told_held held file bytes t e = let both : Some (Some t.whole) ≡ Some None = s
 
 same_file : (o : Option NamedFile) (f g : NamedFile) → o ≡ Some f → o ≡ Some g → f ≡ g
 same_file o f g a b = let both : Some f ≡ Some g = sym a ∙ b in cc
+
+-- a task with a second file has a problem file
+two_files : (task : Task) (file : NamedFile) → second_file task ≡ Some file → (first : NamedFile) × (problem_file task ≡ Some first)
+two_files (solve file height size) named e = (_, refl)
+two_files (show file) named e = (_, refl)
+two_files (check file answer height) named e = (_, refl)
 
 module _ (held : Held) (steady : Bool) (o o' r r' : ℕ) (task : Task) where
   abbrev Output : Status → List ℕ → Type 0
@@ -98,22 +110,42 @@ module _ (held : Held) (steady : Bool) (o o' r r' : ℕ) (task : Task) where
   -- the problem file isn't held
   absent_reached : (file other : NamedFile) → problem_file task ≡ Some file → held file.name ≡ Some None → IsReached held task other → held other.name ≢ Some None → ⊥
   absent_reached file other named absent (as_problem e) there = there (subst (λ (f : NamedFile). held f.name ≡ Some None) (same_file (problem_file task) file other named e) absent)
+  absent_reached file other named absent (as_second first e accepted) there = absent_read held file first (accepted.read file named) absent
 
   absent_output : (s : Status) (x : List ℕ) → Output s x → (file : NamedFile) → problem_file task ≡ Some file → held file.name ≡ Some None → s ≡ status.CannotOpen
   absent_output s x (due inputs state text eo er read d) file named absent = absurd (absent_read held file inputs.problem (read.problem file named) absent)
   absent_output s x (cannot_open f a b c d) file named absent = refl
   absent_output s x (read_fault f a b c d e) file named absent = absurd (absent_reached file f named absent c d)
 
+  -- the problem was accepted, and the second file isn't held
+  second_absent_output : (s : Status) (x : List ℕ) → Output s x → (file next : NamedFile) (bytes : List ℕ) (p : Parts) → problem_file task ≡ Some file → AreTold held file bytes → Judges bytes (Ok p)
+      → second_file task ≡ Some next → held next.name ≡ Some None → Stays r r' → s ≡ status.CannotOpen
+  second_absent_output s x (due inputs state text eo er read d) file next bytes p named told judged second absent stays =
+      let same : inputs.problem ≡ bytes = read_told held file inputs.problem bytes (read.problem file named) told in
+      let accepted : Judges inputs.problem (Ok p) = subst (λ (b : List ℕ). Judges b (Ok p)) (sym same) judged in
+      absurd (absent_read held next inputs.second (read.second p accepted next second) absent)
+  second_absent_output s x (cannot_open f a b c d) file next bytes p named told judged second absent stays = refl
+  second_absent_output s x (read_fault f a b c d e) file next bytes p named told judged second absent stays = absurd (rose_stays r r' a stays)
+
   -- what was read is told
   judged_told : (s : Status) (x : List ℕ) (inputs : Inputs) → JudgedOutput s x → Tell held task inputs → IsDue inputs task s x
   judged_told s x inputs j tell =
-      due_with j.inputs inputs task s x
-      (λ file named. read_told held file j.inputs.problem inputs.problem (j.read.problem file named) (tell.problem file named))
+      let same : (file : NamedFile) → problem_file task ≡ Some file → j.inputs.problem ≡ inputs.problem =
+      λ file named. read_told held file j.inputs.problem inputs.problem (j.read.problem file named) (tell.problem file named) in
+      due_with j.inputs inputs task s x same
+      (λ p judged next e. (
+      let one = two_files task next e in
+      let accepted : Judges inputs.problem (Ok p) = subst (λ (b : List ℕ). Judges b (Ok p)) (same one.0 one.1) judged in
+      read_told held next j.inputs.second inputs.second (j.read.second p judged next e) (tell.second p accepted next e)))
       j.due
 
   -- no file that is reached is absent, where the files tell those of the task
   told_reached : (inputs : Inputs) (file : NamedFile) → Tell held task inputs → IsReached held task file → held file.name ≡ Some None → ⊥
   told_reached inputs file tell (as_problem e) absent = told_held held file inputs.problem (tell.problem file e) absent
+  told_reached inputs file tell (as_second bytes e accepted) absent =
+      let one = two_files task file e in
+      let same : bytes ≡ inputs.problem = read_told held one.0 bytes inputs.problem (accepted.read one.0 one.1) (tell.problem one.0 one.1) in
+      told_held held file inputs.second (tell.second accepted.problem (subst (λ (b : List ℕ). Judges b (Ok accepted.problem)) same accepted.judged) file e) absent
 
 -- the line of the status is printed, where it has one
 pub printed_line : (result : Status) (f f' : ℕ) (w w' : Option (List ℕ)) (state : Status) (text : List ℕ) → IsPrinted result f f' w w' state text
@@ -200,6 +232,12 @@ module _ (words : List (List ℕ)) (held : Held) (steady : Bool) (o o' r r' : �
       → (result ≡ status.CannotOpen) ⊎ ((result ≡ status.WriteFault) ⊎ (result ≡ status.Memory))
   absent_clause task file asks named absent = state_or_fault status.CannotOpen (absent_output held steady o o' r r' task ran.state ran.text (output_of task asks) file named absent)
 
+  pub second_absent_clause : (task : Task) (file next : NamedFile) (bytes : List ℕ) (p : Parts) → Asks words task → problem_file task ≡ Some file → AreTold held file bytes → Judges bytes (Ok p)
+      → second_file task ≡ Some next → held next.name ≡ Some None → Stays r r'
+      → (result ≡ status.CannotOpen) ⊎ ((result ≡ status.WriteFault) ⊎ (result ≡ status.Memory))
+  second_absent_clause task file next bytes p asks named told judged second absent stays =
+      state_or_fault status.CannotOpen (second_absent_output held steady o o' r r' task ran.state ran.text (output_of task asks) file next bytes p named told judged second absent stays)
+
   -- no file that the task names is absent, where the files tell those of the task
   pub told_clause : (task : Task) (inputs : Inputs) → Asks words task → Tell held task inputs → IsTrue steady → result ≢ status.CannotOpen
   told_clause task inputs asks tell is e =
@@ -232,28 +270,69 @@ module _ (words : List (List ℕ)) (held : Held) (steady : Bool) (o o' r r' : �
   ]
 
   -- the files of `solve` tell what its one file holds
-  solve_tells : (file bytes : List ℕ) (height size : ℕ) → held file ≡ Some (Some bytes) → Tell held (solve file height size) (record { problem = take 1048577 bytes })
+  solve_tells : (file bytes : List ℕ) (height size : ℕ) → held file ≡ Some (Some bytes) → Tell held (solve file height size) (record { problem = take 1048577 bytes; second = [] })
   solve_tells file bytes height size told = record {
     problem = λ named e. (
         let same = same_file (problem_file (solve file height size)) (record { name = file; limit = 1048576 }) named refl e in
         subst (λ (n : NamedFile). AreTold held n (take 1048577 bytes)) same (record { whole = bytes; told = told; cut = refl }));
+    second = λ p judged named e. absurd (let none : None ≡ Some named = e in cc);
   }
 
   pub found_clause : result ≡ status.Found → (file bytes : List ℕ) (height size : ℕ) → Asks words (solve file height size) → held file ≡ Some (Some bytes)
       → (p : Parts) × (text : List ℕ) × Judges (take 1048577 bytes) (Ok p) × IsAnswerText p height size text × Grows w w' text
   found_clause e file bytes height size asks told =
       let j : IsJudged result = record { no_bad_words = λ g. cc; no_open_fault = λ g. cc; no_read_fault = λ g. cc; no_write_fault = λ g. cc; no_want_of_memory = λ g. cc } in
-      let d = (due_clause j).1 (solve file height size) (record { problem = take 1048577 bytes }) asks (solve_tells file bytes height size told) in
-      let is = found_due (record { problem = take 1048577 bytes }) (solve file height size) result d.0 d.1 file height size refl e in
+      let d = (due_clause j).1 (solve file height size) (record { problem = take 1048577 bytes; second = [] }) asks (solve_tells file bytes height size told) in
+      let is = found_due (record { problem = take 1048577 bytes; second = [] }) (solve file height size) result d.0 d.1 file height size refl e in
       (is.0, d.0, is.1, is.2, d.2)
 
   pub no_term_clause : result ≡ status.NoTerm → (file bytes : List ℕ) (height size : ℕ) → Asks words (solve file height size) → held file ≡ Some (Some bytes)
       → (p : Parts) × Judges (take 1048577 bytes) (Ok p) × IsAnswer p height size None × Grows w w' none_line
   no_term_clause e file bytes height size asks told =
       let j : IsJudged result = record { no_bad_words = λ g. cc; no_open_fault = λ g. cc; no_read_fault = λ g. cc; no_write_fault = λ g. cc; no_want_of_memory = λ g. cc } in
-      let d = (due_clause j).1 (solve file height size) (record { problem = take 1048577 bytes }) asks (solve_tells file bytes height size told) in
-      let is = none_due (record { problem = take 1048577 bytes }) (solve file height size) result d.0 d.1 file height size refl e in
+      let d = (due_clause j).1 (solve file height size) (record { problem = take 1048577 bytes; second = [] }) asks (solve_tells file bytes height size told) in
+      let is = none_due (record { problem = take 1048577 bytes; second = [] }) (solve file height size) result d.0 d.1 file height size refl e in
       (is.0, is.1, is.2, subst (λ (text : List ℕ). Grows w w' text) is.3 d.2)
+
+  -- and so do those of `show`
+  show_tells : (file bytes : List ℕ) → held file ≡ Some (Some bytes) → Tell held (show file) (record { problem = take 1048577 bytes; second = [] })
+  show_tells file bytes told = record {
+    problem = λ named e. (
+        let same = same_file (problem_file (show file)) (record { name = file; limit = 1048576 }) named refl e in
+        subst (λ (n : NamedFile). AreTold held n (take 1048577 bytes)) same (record { whole = bytes; told = told; cut = refl }));
+    second = λ p judged named e. absurd (let none : None ≡ Some named = e in cc);
+  }
+
+  pub shown_clause : result ≡ status.Shown → (file bytes : List ℕ) → Asks words (show file) → held file ≡ Some (Some bytes)
+      → (p : Parts) × Judges (take 1048577 bytes) (Ok p) × Grows w w' (problem_text p)
+  shown_clause e file bytes asks told =
+      let j : IsJudged result = record { no_bad_words = λ g. cc; no_open_fault = λ g. cc; no_read_fault = λ g. cc; no_write_fault = λ g. cc; no_want_of_memory = λ g. cc } in
+      let d = (due_clause j).1 (show file) (record { problem = take 1048577 bytes; second = [] }) asks (show_tells file bytes told) in
+      let is = shown_due (record { problem = take 1048577 bytes; second = [] }) (show file) result d.0 d.1 file refl e in
+      (is.0, is.1, subst (λ (text : List ℕ). Grows w w' text) is.2 d.2)
+
+  -- what the two files of `check` hold is told
+  check_tells : (file name bytes text : List ℕ) (height : ℕ) → held file ≡ Some (Some bytes) → held name ≡ Some (Some text)
+      → Tell held (check file name height) (record { problem = take 1048577 bytes; second = take 8388609 text })
+  check_tells file name bytes text height told second = record {
+    problem = λ named e. (
+        let same = same_file (problem_file (check file name height)) (record { name = file; limit = 1048576 }) named refl e in
+        subst (λ (n : NamedFile). AreTold held n (take 1048577 bytes)) same (record { whole = bytes; told = told; cut = refl }));
+    second = λ p judged named e. (
+        let same = same_file (second_file (check file name height)) (record { name = name; limit = 8388608 }) named refl e in
+        subst (λ (n : NamedFile). AreTold held n (take 8388609 text)) same (record { whole = text; told = second; cut = refl }));
+  }
+
+  pub valid_clause : result ≡ status.Valid → (file name bytes text : List ℕ) (height : ℕ) → Asks words (check file name height) → held file ≡ Some (Some bytes) → held name ≡ Some (Some text)
+      → (p : Parts) × (answer : TreeAnswer) × Judges (take 1048577 bytes) (Ok p) × Reads p (take 8388609 text) (Ok answer)
+      × Lang p.grammar start answer.term × Solves p height answer.term × Grows w w' valid_line
+  valid_clause e file name bytes text height asks told second =
+      let j : IsJudged result = record { no_bad_words = λ g. cc; no_open_fault = λ g. cc; no_read_fault = λ g. cc; no_write_fault = λ g. cc; no_want_of_memory = λ g. cc } in
+      let inputs : Inputs = record { problem = take 1048577 bytes; second = take 8388609 text } in
+      let d = (due_clause j).1 (check file name height) inputs asks (check_tells file name bytes text height told second) in
+      let is = valid_due inputs (check file name height) result d.0 d.1 file name height refl e in
+      let holds = valid_solves is.0 height (take 8388609 text) checked.Valid is.2 refl in
+      (is.0, holds.answer, is.1, holds.read, holds.member, holds.solved, subst (λ (line : List ℕ). Grows w w' line) is.3 d.2)
 
   pub memory_clause : result ≡ status.Memory → ⊥
   memory_clause e = let a = whole (λ g. cc) in others.2 (a.0 ∙ e)

@@ -1,6 +1,8 @@
 -- The lines that are printed.
 use Rattle.std.specs.Prelude.{◌==◌, ℕ, List, ◌++◌, [], ◌∷◌, Option, Some, None, if◌then◌else◌, codes, decimal}
 use Rattle.syntax_core.specs.declared.fault.Fault.{Fault}
+use Rattle.semgus_app.specs.declared.status.Flaw.{Flaw}
+use Rattle.semgus_app.specs.declared.status.Flaw.TheVariants as flaw
 use Rattle.semgus_app.specs.declared.status.Status.{Status}
 use Rattle.semgus_app.specs.declared.status.Status.TheVariants as status
 use Rattle.semgus_app.specs.declared.status.Which.{Which}
@@ -19,6 +21,9 @@ bad_words_line = codes "bad words\n"
 abbrev pub none_line : List ℕ
 none_line = codes "none\n"
 
+abbrev pub valid_line : List ℕ
+valid_line = codes "valid\n"
+
 -- a space and a number
 abbrev pub number_word : ℕ → List ℕ
 number_word n = 32 ∷ [] ++ decimal n
@@ -32,10 +37,25 @@ abbrev pub refusal_line : Which → Fault → List ℕ
 refusal_line file fault = refusal_start file ++ number_word fault.place ++ number_word fault.reason
     ++ (if fault.reason == 50 then number_word fault.limit else []) ++ 10 ∷ []
 
+-- the number of a flaw, and where it is
+abbrev pub flaw_text : Flaw → List ℕ
+flaw_text (flaw.Form fault) = codes " 1" ++ number_word fault.place ++ number_word fault.reason
+flaw_text flaw.Nodes = codes " 2"
+flaw_text flaw.Size = codes " 3"
+flaw_text flaw.Grammar = codes " 4"
+flaw_text (flaw.Step bad) = codes " 5" ++ number_word bad.step ++ number_word bad.reason
+flaw_text (flaw.Constraint number) = codes " 6" ++ number_word number
+
+abbrev pub flaw_line : Flaw → List ℕ
+flaw_line f = codes "invalid" ++ flaw_text f ++ 10 ∷ []
+
 -- the line that a status prints, where it is the same for all tasks and files
 abbrev pub line_of : Status → Option (List ℕ)
 line_of status.Found = None
+line_of status.Shown = None
+line_of status.Valid = Some valid_line
 line_of status.NoTerm = Some none_line
+line_of (status.Invalid f) = Some (flaw_line f)
 line_of status.BadWords = Some bad_words_line
 line_of (status.Refused file fault) = Some (refusal_line file fault)
 line_of status.CannotOpen = None

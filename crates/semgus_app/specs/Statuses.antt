@@ -1,11 +1,14 @@
 -- The exit status of each status, and the statuses that the bytes of files bring.
 use Rattle.std.specs.Prelude.{◌≢◌, ℕ}
 use Rattle.semgus_app.specs.declared.status.Status.{Status}
-use Rattle.semgus_app.specs.declared.status.Status.TheVariants.{Found, NoTerm, BadWords, Refused, CannotOpen, ReadFault, WriteFault, Memory}
+use Rattle.semgus_app.specs.declared.status.Status.TheVariants.{Found, Shown, Valid, NoTerm, Invalid, BadWords, Refused, CannotOpen, ReadFault, WriteFault, Memory}
 
 abbrev pub number_of : Status → ℕ
 number_of Found = 0
+number_of Shown = 0
+number_of Valid = 0
 number_of NoTerm = 1
+number_of (Invalid flaw) = 1
 number_of BadWords = 2
 number_of (Refused which fault) = 3
 number_of CannotOpen = 4

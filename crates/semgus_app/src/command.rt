@@ -1,6 +1,6 @@
 ghost use Rattle.std.specs.Prelude.{◌≡◌, ◌≢◌, ◌≤◌, ℕ, List, Some, MatchOption, slice_get, codes, decimal};
 ghost use Rattle.semgus_app.specs.Commands.{task_of};
-ghost use Rattle.semgus_app.specs.Tasks.{Asks, HaveNoForm, height_of, problem_file, size_of, solve};
+ghost use Rattle.semgus_app.specs.Tasks.{Asks, HaveNoForm, problem_file, solve, show, check};
 
 use itoa::Buffer;
 use semgus_io::Words;
@@ -22,6 +22,10 @@ const USUAL_SIZE: u32 = 16;
 pub enum Command<'a> {
     /// a file, a bound on the height of derivations and one on the size of terms
     Solve(&'a str, u32, u32),
+    /// a file
+    Show(&'a str),
+    /// a file, an answer file and a bound on the height of its steps
+    Check(&'a str, &'a str, u32),
 }
 
 impl<'a> Command<'a> {
@@ -30,25 +34,7 @@ impl<'a> Command<'a> {
         ensures { problem_file (task_of self.now) ≡ Some (record { name = result.now; limit = 1048576 }) }
     {
         match self {
-            Command::Solve(file, _, _) => file,
-        }
-    }
-
-    /// The bound on the height of derivations.
-    pub fn height(&self) -> u32
-        ensures { result ≡ height_of (task_of self.now) }
-    {
-        match self {
-            Command::Solve(_, height, _) => *height,
-        }
-    }
-
-    /// The bound on the size of terms.
-    pub fn size(&self) -> u32
-        ensures { result ≡ size_of (task_of self.now) }
-    {
-        match self {
-            Command::Solve(_, _, size) => *size,
+            Command::Solve(file, _, _) | Command::Show(file) | Command::Check(file, _, _) => file,
         }
     }
 }
@@ -60,6 +46,12 @@ pub fn command_of(words: &Words) -> Option<Command<'_>>
     let name = words.get(0)?;
     if name == "solve" {
         return solve_of(words);
+    }
+    if name == "show" {
+        return show_of(words);
+    }
+    if name == "check" {
+        return check_of(words);
     }
     None
 }
@@ -79,6 +71,32 @@ fn solve_of(words: &Words) -> Option<Command<'_>>
         return None;
     }
     Some(Command::Solve(file, height, size))
+}
+
+/// `show FILE`, where the first word is `show`.
+fn show_of(words: &Words) -> Option<Command<'_>>
+    requires { slice_get words.now 0 ≡ Some (codes "show") }
+    ensures { MatchOption result ((file : List ℕ) → ¬ Asks words.now (show file)) (λ command. Asks words.now (task_of command)) }
+{
+    let file = words.get(1)?;
+    if words.len() != 2 {
+        return None;
+    }
+    Some(Command::Show(file))
+}
+
+/// `check FILE ANSWER HEIGHT`, where the first word is `check`.
+fn check_of(words: &Words) -> Option<Command<'_>>
+    requires { slice_get words.now 0 ≡ Some (codes "check") }
+    ensures { MatchOption result ((file answer : List ℕ) (height : ℕ) → ¬ Asks words.now (check file answer height)) (λ command. Asks words.now (task_of command)) }
+{
+    let file = words.get(1)?;
+    let answer = words.get(2)?;
+    let height = numeral_between(words.get(3)?, 1, MAX_HEIGHT)?;
+    if words.len() != 4 {
+        return None;
+    }
+    Some(Command::Check(file, answer, height))
 }
 
 /// The number that a numeral between two numbers spells: `0`, or digits without a leading 0.

@@ -2,10 +2,12 @@
 #![tactic(auto)]
 
 mod answer;
+mod check;
 mod command;
 mod contents;
 mod derivation;
 mod due;
+mod feed;
 mod judge;
 mod laws;
 mod lines;
@@ -16,7 +18,9 @@ mod task;
 #[cfg(test)]
 mod tests;
 
+pub use answer_core::AnswerFault;
+pub use deriv_core::BadStep;
 pub use laws::{one_status, one_task};
 pub use program::run;
-pub use status::{Status, Which};
+pub use status::{Flaw, Status, Which};
 pub use syntax_core::Fault;

@@ -1,8 +1,8 @@
 ghost use Rattle.std.specs.Prelude.{◌≡◌, ◌==◌, [], ◌∷◌, ◌++◌, if◌then◌else◌, IfOk, OnOk};
-ghost use Rattle.semgus_app.specs.Lines.{cannot_open_line, read_fault_line, refusal_start, refusal_line, number_word};
+ghost use Rattle.semgus_app.specs.Lines.{cannot_open_line, read_fault_line, refusal_start, refusal_line, flaw_line, flaw_text, number_word};
 
 use crate::due::Due;
-use crate::status::{Status, Which};
+use crate::status::{Flaw, Status, Which};
 use itoa::Buffer;
 use sig_core::Bytes;
 use std::alloc::{AllocError, Global};
@@ -66,6 +66,46 @@ fn put_limit(fault: Fault, out: &mut Bytes) -> Result<(), AllocError>
         put_number(u64::from(fault.limit), out)?;
     }
     Ok(())
+}
+
+/// The line of an answer file that holds no answer to the problem.
+pub fn invalid(alloc: Global, flaw: Flaw) -> Result<Due, AllocError>
+    ensures { IfOk result (λ d. (d.status ≡ Status.Invalid flaw) × (d.text ≡ flaw_line flaw)) }
+{
+    let mut text = Bytes::new(alloc);
+    text.append(b"invalid")?;
+    put_flaw(flaw, &mut text)?;
+    text.push(b'\n')?;
+    Ok(Due {
+        status: Status::Invalid(flaw),
+        text,
+    })
+}
+
+/// The number of a flaw, and where it is.
+fn put_flaw(flaw: Flaw, out: &mut Bytes) -> Result<(), AllocError>
+    ensures { OnOk result (out.new ≡ out.old ++ flaw_text flaw) }
+{
+    match flaw {
+        Flaw::Form(fault) => put_place(b" 1", u64::from(fault.place), fault.reason, out),
+        Flaw::Nodes => out.append(b" 2"),
+        Flaw::Size => out.append(b" 3"),
+        Flaw::Grammar => out.append(b" 4"),
+        Flaw::Step(bad) => put_place(b" 5", bad.step as u64, bad.reason, out),
+        Flaw::Constraint(number) => {
+            out.append(b" 6")?;
+            put_number(u64::from(number), out)
+        }
+    }
+}
+
+/// The number of a flaw, a place and a reason.
+fn put_place(start: &[u8], place: u64, reason: u8, out: &mut Bytes) -> Result<(), AllocError>
+    ensures { OnOk result (out.new ≡ out.old ++ (start.now ++ number_word place ++ number_word reason)) }
+{
+    out.append(start)?;
+    put_number(place, out)?;
+    put_number(u64::from(reason), out)
 }
 
 /// A space and a number.

@@ -1,16 +1,20 @@
 ghost use Rattle.std.specs.Prelude.{◌≡◌, ◌≢◌, ◌+◌, ◌<◌, ◌≤◌, ◌⊎◌, ℕ, List, Some, None, Ok, IsTrue, take};
 ghost use Rattle.std.specs.Option.{ForSome};
-ghost use Rattle.problem_core.specs.Problems.{Parts, IsAnswer};
+ghost use Rattle.grammar_core.specs.Grammars.{Lang, start};
+ghost use Rattle.problem_core.specs.Problems.{Parts, IsAnswer, Solves};
+ghost use Rattle.problem_core.specs.Texts.{problem_text};
+ghost use Rattle.answer_core.specs.Readings.{TreeAnswer};
 ghost use Rattle.semgus_io.specs.Counts.{Rises, Stays};
 ghost use Rattle.semgus_io.specs.Writes.{Grows};
 ghost use Rattle.semgus_app.specs.Answers.{IsAnswerText};
+ghost use Rattle.semgus_app.specs.Checks.{Reads};
 ghost use Rattle.semgus_app.specs.Dues.{IsDue};
-ghost use Rattle.semgus_app.specs.Files.{Inputs, Tell, IsReached};
-ghost use Rattle.semgus_app.specs.Lines.{bad_words_line, cannot_open_line, read_fault_line, none_line, line_of};
+ghost use Rattle.semgus_app.specs.Files.{Inputs, AreTold, Tell, IsReached};
+ghost use Rattle.semgus_app.specs.Lines.{bad_words_line, cannot_open_line, read_fault_line, none_line, valid_line, line_of};
 ghost use Rattle.semgus_app.specs.Outputs.{IsOutput, IsPrinted, NoneRose};
 ghost use Rattle.elab_core.specs.Judging.{Judges};
 ghost use Rattle.semgus_app.specs.Statuses.{IsJudged};
-ghost use Rattle.semgus_app.specs.Tasks.{Task, NamedFile, Asks, HaveNoForm, solve, most_taken, problem_file};
+ghost use Rattle.semgus_app.specs.Tasks.{Task, NamedFile, Asks, HaveNoForm, solve, show, check, most_taken, problem_file, second_file};
 
 use crate::command::command_of;
 use crate::status::Status;
@@ -20,8 +24,9 @@ use std::alloc::Global;
 
 /// Does what the words ask for. All lines go to the sink and end with LF.
 ///
-/// The words are judged first. Then the problem file is begun, read to its end or to the byte past its limit, and only
-/// then judged. The whole output is built before the first write.
+/// The words are judged first. Then the problem file is begun and read to its end or to the byte past its limit, and
+/// judged as its bytes come; a refusal is told only then. A second file is begun only after the problem was accepted.
+/// The whole output is built before the first write.
 pub fn run<F: Files, S: Sink>(alloc: Global, words: &Words, files: &mut F, out: &mut S) -> Status
     // Words that have none of the forms touch no file, and have their line printed.
     ensures bad_words { HaveNoForm words.now → (files.new ≡ files.old)
@@ -40,7 +45,7 @@ pub fn run<F: Files, S: Sink>(alloc: Global, words: &Words, files: &mut F, out: 
     // Want of memory leaves the sink as it was.
     ensures memory { result ≡ Status.Memory → (S.written out.new ≡ S.written out.old) × (S.faults out.new ≡ S.faults out.old) }
 
-    ensures read_at_most { F.taken files.new ≤ F.taken files.old + 1048577 }
+    ensures read_at_most { F.taken files.new ≤ F.taken files.old + (1048577 + 8388609) }
     ensures taken { (task : Task) → Asks words.now task → F.taken files.new ≤ F.taken files.old + most_taken task }
     ensures held { F.held files.new ≡ F.held files.old }
     ensures steady { F.steady files.new ≡ F.steady files.old }
@@ -65,6 +70,16 @@ pub fn run<F: Files, S: Sink>(alloc: Global, words: &Words, files: &mut F, out: 
         (problem : Parts) × Judges (take 1048577 bytes) (Ok problem)
         × IsAnswer problem height size None × Grows (S.written out.old) (S.written out.new) none_line }
 
+    // What is shown is the canonical text of the problem.
+    ensures shown { result ≡ Status.Shown → (file bytes : List ℕ) → Asks words.now (show file) → F.held files.old file ≡ Some (Some bytes) →
+        (problem : Parts) × Judges (take 1048577 bytes) (Ok problem) × Grows (S.written out.old) (S.written out.new) (problem_text problem) }
+
+    // The term of a valid answer is in the language and solves the problem within the height.
+    ensures valid { result ≡ Status.Valid → (file name bytes text : List ℕ) (height : ℕ) → Asks words.now (check file name height) →
+        F.held files.old file ≡ Some (Some bytes) → F.held files.old name ≡ Some (Some text) →
+        (problem : Parts) × (answer : TreeAnswer) × Judges (take 1048577 bytes) (Ok problem) × Reads problem (take 8388609 text) (Ok answer)
+        × Lang problem.grammar start answer.term × Solves problem height answer.term × Grows (S.written out.old) (S.written out.new) valid_line }
+
     // Each fault comes only where its count rose, with the line that it prints.
     ensures cannot_open { result ≡ Status.CannotOpen → Rises (F.open_faults files.old) (F.open_faults files.new)
         × (F.read_faults files.new ≡ F.read_faults files.old) × (S.faults out.new ≡ S.faults out.old)
@@ -82,6 +97,11 @@ pub fn run<F: Files, S: Sink>(alloc: Global, words: &Words, files: &mut F, out: 
     ensures open_fault_counts { F.open_faults files.old < F.open_faults files.new →
         (result ≡ Status.CannotOpen) ⊎ ((result ≡ Status.WriteFault) ⊎ (result ≡ Status.Memory)) }
     ensures not_held { (task : Task) (file : NamedFile) → Asks words.now task → problem_file task ≡ Some file → F.held files.old file.name ≡ Some None →
+        (result ≡ Status.CannotOpen) ⊎ ((result ≡ Status.WriteFault) ⊎ (result ≡ Status.Memory)) }
+
+    ensures second_not_held { (task : Task) (file next : NamedFile) (bytes : List ℕ) (problem : Parts) → Asks words.now task →
+        problem_file task ≡ Some file → AreTold (F.held files.old) file bytes → Judges bytes (Ok problem) →
+        second_file task ≡ Some next → F.held files.old next.name ≡ Some None → Stays (F.read_faults files.old) (F.read_faults files.new) →
         (result ≡ Status.CannotOpen) ⊎ ((result ≡ Status.WriteFault) ⊎ (result ≡ Status.Memory)) }
 
     // Steady files that hold what the task names can be opened.

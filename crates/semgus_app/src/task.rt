@@ -1,19 +1,24 @@
-ghost use Rattle.std.specs.Prelude.{◌≡◌, ◌+◌, ◌<◌, ◌≤◌, ◌^◌, ℕ, List, Ok, IfOk, length};
+ghost use Rattle.std.specs.Prelude.{◌≡◌, ◌+◌, ◌≤◌, ℕ, List, Ok, IfOk};
+ghost use Rattle.std.specs.Option.{ForSome};
 ghost use Rattle.semgus_app.specs.Commands.{task_of};
 ghost use Rattle.semgus_app.specs.Dues.{IsDue};
-ghost use Rattle.semgus_app.specs.Files.{Inputs};
+ghost use Rattle.semgus_app.specs.Files.{Inputs, AreRead};
 ghost use Rattle.semgus_app.specs.Outputs.{IsOutput};
+ghost use Rattle.elab_core.specs.Feeding.{HasRoom, IsJudging};
 ghost use Rattle.elab_core.specs.Judging.{Judges};
-ghost use Rattle.semgus_app.specs.Tasks.{HasBounds, IsHeight, IsSize, most_taken, solve};
+ghost use Rattle.semgus_app.specs.Reading.{CanEnd, IsReading};
+ghost use Rattle.semgus_app.specs.Tasks.{HasBounds, IsHeight, IsSize, most_of, most_taken, problem_file, second_file, solve, show, check};
 
 use crate::answer::answer;
+use crate::check::{ANSWER_LIMIT, AnswerFile, Checked, check_answer};
 use crate::command::Command;
 use crate::contents::Contents;
 use crate::due::Due;
-use crate::judge::{FILE_LIMIT, judge};
-use crate::lines::{cannot_open, read_fault, refusal};
+use crate::judge::{FILE_LIMIT, judgement};
+use crate::lines::{cannot_open, invalid, read_fault, refusal};
 use crate::read::read_file;
 use crate::status::{Status, Which};
+use elab_core::Judge;
 use problem_core::Problem;
 use semgus_io::Files;
 use std::alloc::{AllocError, Global};
@@ -33,32 +38,58 @@ pub fn output_of<F: Files>(
     ensures steady { F.steady files.new ≡ F.steady files.old }
 {
     let file = command.file();
-    match read_file(alloc, file, FILE_LIMIT, files)? {
-        Contents::Read(bytes) => Ok(due_after(alloc, command, bytes.as_slice())?),
+    match read_file(file, FILE_LIMIT, files, Judge::new(alloc))? {
+        Contents::Read(judge) => Ok(output_after(alloc, command, judge, files)?),
         Contents::Closed => Ok(cannot_open(alloc, file)?),
         Contents::Failed => Ok(read_fault(alloc)?),
     }
 }
 
-/// What is due for a command after the bytes of its problem file were read.
-fn due_after(alloc: Global, command: &Command<'_>, bytes: &[u8]) -> Result<Due, AllocError>
+/// What a command comes to after the bytes of its problem file were fed to the judge.
+fn output_after<F: Files>(
+    alloc: Global,
+    command: &Command<'_>,
+    judge: Judge,
+    files: &mut F,
+) -> Result<Due, AllocError>
     requires bounds { HasBounds (task_of command.now) }
-    requires short { length bytes.now < 2 ^ 32 }
-    ensures { IfOk result (λ d. IsDue (record { problem = bytes.now }) (task_of command.now) d.status d.text) }
+    requires room { HasRoom judge 0 }
+    ensures output { IfOk result (λ d. (bytes : List ℕ) → IsJudging judge bytes → ForSome (problem_file (task_of command.now)) (λ file. AreRead (F.held files.old) file bytes) →
+        IsOutput (F.held files.old) (F.steady files.old)
+        (F.open_faults files.old) (F.open_faults files.new) (F.read_faults files.old) (F.read_faults files.new)
+        (task_of command.now) d.status d.text) }
+    ensures taken { F.taken files.new ≤ F.taken files.old + most_of (second_file (task_of command.now)) }
+    ensures held { F.held files.new ≡ F.held files.old }
+    ensures steady { F.steady files.new ≡ F.steady files.old }
 {
-    match judge(alloc, bytes)? {
-        Ok(problem) => Ok(due_of(alloc, command, &problem)?),
+    match judgement(judge)? {
+        Ok(problem) => Ok(output_for(alloc, command, &problem, files)?),
         Err(fault) => Ok(refusal(alloc, Which::Problem, fault)?),
     }
 }
 
-/// What is due for a command and its problem.
-fn due_of(alloc: Global, command: &Command<'_>, problem: &Problem) -> Result<Due, AllocError>
-    requires bounds { HasBounds (task_of command.now) }
-    ensures { IfOk result (λ d. (inputs : Inputs) → Judges inputs.problem (Ok problem.now) → IsDue inputs (task_of command.now) d.status d.text) }
+/// What a command comes to after its problem was accepted.
+fn output_for<F: Files>(
+    alloc: Global,
+    command: &Command<'_>,
+    problem: &Problem,
+    files: &mut F,
+) -> Result<Due, AllocError>
+    requires { HasBounds (task_of command.now) }
+    ensures output { IfOk result (λ d. (first : List ℕ) → Judges first (Ok problem.now) →
+        ForSome (problem_file (task_of command.now)) (λ file. AreRead (F.held files.old) file first) →
+        IsOutput (F.held files.old) (F.steady files.old)
+        (F.open_faults files.old) (F.open_faults files.new) (F.read_faults files.old) (F.read_faults files.new)
+        (task_of command.now) d.status d.text) }
+    ensures taken { F.taken files.new ≤ F.taken files.old + most_of (second_file (task_of command.now)) }
+    ensures held { F.held files.new ≡ F.held files.old }
+    ensures steady { F.steady files.new ≡ F.steady files.old }
 {
-    let (height, size) = (command.height(), command.size());
-    Ok(solved(alloc, problem, height, size)?)
+    match command {
+        Command::Solve(_, height, size) => Ok(solved(alloc, problem, *height, *size)?),
+        Command::Show(_) => Ok(shown(alloc, problem)?),
+        Command::Check(_, answer, height) => Ok(checked(alloc, problem, answer, *height, files)?),
+    }
 }
 
 /// What is due for `solve`.
@@ -73,5 +104,57 @@ fn solved(alloc: Global, problem: &Problem, height: u32, size: u32) -> Result<Du
             text,
         }),
         None => Ok(Due::line(alloc, Status::NoTerm, b"none\n")?),
+    }
+}
+
+/// What is due for `show`.
+fn shown(alloc: Global, problem: &Problem) -> Result<Due, AllocError>
+    ensures { IfOk result (λ d. (inputs : Inputs) (file : List ℕ) → Judges inputs.problem (Ok problem.now) → IsDue inputs (show file) d.status d.text) }
+{
+    let text = problem.print(alloc)?;
+    Ok(Due {
+        status: Status::Shown,
+        text,
+    })
+}
+
+/// What `check` comes to after its problem was accepted, where the answer file has this name.
+fn checked<F: Files>(
+    alloc: Global,
+    problem: &Problem,
+    name: &str,
+    height: u32,
+    files: &mut F,
+) -> Result<Due, AllocError>
+    ensures output { IfOk result (λ d. (file first : List ℕ) → Judges first (Ok problem.now) →
+        ForSome (problem_file (check file name.now height)) (λ named. AreRead (F.held files.old) named first) →
+        IsOutput (F.held files.old) (F.steady files.old)
+        (F.open_faults files.old) (F.open_faults files.new) (F.read_faults files.old) (F.read_faults files.new)
+        (check file name.now height) d.status d.text) }
+    ensures taken { F.taken files.new ≤ F.taken files.old + 8388609 }
+    ensures held { F.held files.new ≡ F.held files.old }
+    ensures steady { F.steady files.new ≡ F.steady files.old }
+{
+    match read_file(name, ANSWER_LIMIT, files, AnswerFile::new(alloc))? {
+        Contents::Read(file) => Ok(due_for_answer(alloc, problem, file, height)?),
+        Contents::Closed => Ok(cannot_open(alloc, name)?),
+        Contents::Failed => Ok(read_fault(alloc)?),
+    }
+}
+
+/// What is due for `check`, where the answer file was read.
+fn due_for_answer(
+    alloc: Global,
+    problem: &Problem,
+    answer: AnswerFile,
+    height: u32,
+) -> Result<Due, AllocError>
+    requires { CanEnd answer }
+    ensures { IfOk result (λ d. (file name first bytes : List ℕ) → Judges first (Ok problem.now) → IsReading answer bytes → IsDue (record { problem = first; second = bytes }) (check file name height) d.status d.text) }
+{
+    match check_answer(alloc, problem, answer, height)? {
+        Checked::Valid => Ok(Due::line(alloc, Status::Valid, b"valid\n")?),
+        Checked::Invalid(flaw) => Ok(invalid(alloc, flaw)?),
+        Checked::Refused(fault) => Ok(refusal(alloc, Which::Answer, fault)?),
     }
 }

@@ -1,5 +1,6 @@
 use crate::{Fault, Status, Which, run};
 use semgus_io::{MemoryFiles, MemorySink, SteadyFiles, SteadySink, Words};
+use sig_core::Bytes;
 use std::alloc::AllocError;
 use std::process::Abort;
 use std::test::Fail;
@@ -320,6 +321,82 @@ fn words_are_answered_within_their_bounds(rt: HostRuntime) -> Result<(), Fail> {
         let mut files = file_named(&rt, name, text)?;
         check(&rt, line, &mut files, status, output)?;
     }
+    Ok(())
+}
+
+#[test]
+fn a_file_may_come_byte_by_byte(rt: HostRuntime) -> Result<(), Fail> {
+    for (text, output) in [(TINY, TINY_ANSWER), (LOOP, LOOP_ANSWER)] {
+        let mut files = file_of(&rt, text)?;
+        files.piece(1);
+        check(&rt, "solve tiny.sl 4 1", &mut files, Status::Found, output)?;
+    }
+    Ok(())
+}
+
+/// First parts of TINY, each refused at its end: within a form, or between forms before the `check-synth`.
+const CUTS: [(&str, u32, u8, &str); 5] = [
+    ("(", 1, 3, "refused 1 3\n"),
+    (
+        "(declare-term-types ((E 0)) (($a))",
+        34,
+        3,
+        "refused 34 3\n",
+    ),
+    (
+        "(declare-term-types ((E 0)) (($a)))",
+        35,
+        60,
+        "refused 35 60\n",
+    ),
+    (
+        "(declare-term-types ((E 0)) (($a)))
+(define-funs-rec ((S ((t E) (r Int)) Bool))",
+        79,
+        3,
+        "refused 79 3\n",
+    ),
+    (
+        "(declare-term-types ((E 0)) (($a)))
+(define-funs-rec ((S ((t E) (r Int)) Bool)) ((! (match t (($a (= r 1)))) :input () :output (r))))
+",
+        134,
+        60,
+        "refused 134 60\n",
+    ),
+];
+
+#[test]
+fn a_file_that_is_cut_is_refused_at_its_end(rt: HostRuntime) -> Result<(), Fail> {
+    for (text, end, reason, output) in CUTS {
+        let mut files = file_of(&rt, text)?;
+        files.piece(1);
+        let status = refused(end, reason);
+        check(&rt, "solve tiny.sl 1 1", &mut files, status, output)?;
+    }
+    Ok(())
+}
+
+/// TINY after so many spaces that the end of the first 4,096 bytes comes within a form.
+fn after_spaces(rt: &impl AllocGlobal) -> Result<Bytes, AllocError> {
+    let mut text = Bytes::new(rt.alloc());
+    text.append([b' '; 4000].as_slice())?;
+    text.append(TINY.as_bytes())?;
+    Ok(text)
+}
+
+#[test]
+fn a_form_may_stand_in_two_pieces(rt: HostRuntime) -> Result<(), Fail> {
+    let text = after_spaces(&rt)?;
+    let mut files = MemoryFiles::new(rt.alloc());
+    files.add("tiny.sl", text.as_slice())?;
+    check(
+        &rt,
+        "solve tiny.sl 1 1",
+        &mut files,
+        Status::Found,
+        TINY_ANSWER,
+    )?;
     Ok(())
 }
 

@@ -6,7 +6,6 @@ pub mod Lexicon
 pub mod Model
 pub mod Prefixes
 pub mod Reading
-pub mod Reads
 pub mod Respelling
 pub mod Sizes
 pub mod Spelling

@@ -9,9 +9,6 @@ mod laws;
 mod lexicon;
 mod printing;
 mod reader;
-mod reading;
-#[cfg(test)]
-mod tests;
 
 pub use fault::{FeedError, LexFault};
 pub use forest::Forest;
@@ -21,4 +18,3 @@ pub use laws::{
 };
 pub use printing::print;
 pub use reader::Reader;
-pub use reading::read_whole;

@@ -1,6 +1,6 @@
 ghost use Rattle.std.specs.Prelude.{◌≡◌, ◌++◌, IfOk, OnOk, OnErr};
 ghost use Rattle.std.specs.List.{list_all};
-ghost use Rattle.sig_core.specs.Names.{is_symbol_byte, is_simple_symbol, is_reserved, symbol_text};
+ghost use Rattle.sig_core.specs.Names.{is_symbol_byte, is_simple_symbol, is_reserved, same_name, symbol_text};
 ghost use Rattle.sig_core.specs.Texts.{literal_text, IsPart};
 
 use crate::Bytes;
@@ -15,6 +15,13 @@ pub fn bytes_of(alloc: Global, bytes: &[u8]) -> Result<Bytes, AllocError>
     let mut list = Bytes::new(alloc);
     list.append(bytes)?;
     Ok(list)
+}
+
+/// Whether a name is this word.
+pub fn is_word(name: &[u8], word: &[u8]) -> bool
+    ensures { result ≡ same_name word.now name.now }
+{
+    word == name
 }
 
 /// Appends the value's literal, as SMT-LIB 2.6 spells it: a numeral, `(- n)`, `true` or `false`.

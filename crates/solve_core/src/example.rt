@@ -8,8 +8,7 @@ ghost use Rattle.solve_core.specs.Examples.{as_example, examples_of, HoldsOn, Is
 use eval_core::{Evaluator, Outcome};
 use items::Items;
 use problem_core::{Constraint, Problem};
-use rule_core::params_of;
-use sig_core::{Kind, Param, RelId, Signature, Value, Values};
+use sig_core::{Kind, Param, RelId, Signature, Value, Values, inputs_of, outputs_of, params_of};
 use std::alloc::{AllocError, Global};
 use term_core::{Bank, TermId};
 
@@ -51,48 +50,6 @@ fn as_example(
         inputs,
         outputs,
     })
-}
-
-/// Of the values of all parameters that aren't terms, those of the inputs.
-fn inputs_of(alloc: Global, params: &[Param], args: &[Value]) -> Result<Values, AllocError>
-    ensures { IfOk result (λ inputs. inputs ≡ inputs_of (map (λ p. p.kind) params.now) args.now) }
-{
-    let mut inputs = Values::new(alloc);
-    let mut rest = args;
-    for param in params {
-        if let Kind::Term(_) = param.kind {
-            continue;
-        }
-        let Some((value, others)) = rest.split_first() else {
-            return Ok(inputs);
-        };
-        if let Kind::Input(_) = param.kind {
-            inputs.push(*value)?;
-        }
-        rest = others;
-    }
-    Ok(inputs)
-}
-
-/// Of the values of all parameters that aren't terms, those of the outputs.
-fn outputs_of(alloc: Global, params: &[Param], args: &[Value]) -> Result<Values, AllocError>
-    ensures { IfOk result (λ outputs. outputs ≡ outputs_of (map (λ p. p.kind) params.now) args.now) }
-{
-    let mut outputs = Values::new(alloc);
-    let mut rest = args;
-    for param in params {
-        if let Kind::Term(_) = param.kind {
-            continue;
-        }
-        let Some((value, others)) = rest.split_first() else {
-            return Ok(outputs);
-        };
-        if let Kind::Output(_) = param.kind {
-            outputs.push(*value)?;
-        }
-        rest = others;
-    }
-    Ok(outputs)
 }
 
 /// Whether each example holds on the term. The first that doesn't is the last that is asked.

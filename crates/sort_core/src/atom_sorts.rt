@@ -9,8 +9,8 @@ ghost use Rattle.sort_core.specs.Sorts.{argument_faults, argument_faults_at, ato
 use crate::open::{OpenExp, OpenNode};
 use crate::sorts::{fault_as, inner_fault};
 use items::at;
-use rule_core::{Who, params_of};
-use sig_core::{Constructor, Kind, Param, Signature, Sort, TypeId};
+use rule_core::Who;
+use sig_core::{Constructor, Kind, Param, Signature, Sort, TypeId, params_of};
 use syntax_core::{Fault, refusal};
 
 /// The type of the term of this constructor, or of one of its children.

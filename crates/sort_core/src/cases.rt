@@ -20,9 +20,9 @@ use items::{Items, at};
 use name_core::is_plain;
 use rule_core::Names;
 use sexpr_core::Atom;
-use sig_core::{ConId, Constructor, RelId, Signature, Sort, TypeId};
+use sig_core::{ConId, Constructor, RelId, Signature, Sort, TypeId, is_word};
 use std::alloc::{AllocError, Global};
-use syntax_core::{Case, Fault, Function, Pair, Pattern, is_word, refusal};
+use syntax_core::{Case, Fault, Function, Pair, Pattern, refusal};
 
 type Sorts = Items<Sort>;
 

@@ -6,8 +6,7 @@ ghost use Rattle.sort_core.specs.Sorts.{are_of_type, example_argument, example_a
 ghost use Rattle.sig_core.specs.declared.signature.Kind.TheVariants as Kind;
 
 use crate::opening::relation_named;
-use rule_core::params_of;
-use sig_core::{Kind, Param, Signature, Sort, TypeId};
+use sig_core::{Kind, Param, Signature, Sort, TypeId, params_of};
 use syntax_core::{
     Application, Exp, Fault, digits_place, is_out_of_range, literal_of, place_of_exp, refusal,
     sort_of_literal,

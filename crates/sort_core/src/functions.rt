@@ -110,9 +110,9 @@ fn declaration_fault(function: &Function) -> Option<Fault>
     }
 }
 
-/// The leftmost fault of declarations.
+/// The leftmost declaration that has not exactly one parameter for terms: reason 30.
 #[tactic(auto, using(name_core::proofs::Firsts::firsts))]
-pub(crate) fn declarations_fault(functions: &[Function]) -> Option<Fault>
+pub fn declarations_fault(functions: &[Function]) -> Option<Fault>
     ensures { result ≡ first (flat_map declaration_faults functions.now) }
 {
     for function in functions {

@@ -20,7 +20,7 @@ pub use branch::{OpenBranch, OpenBranches, OpenCase, OpenCases};
 pub use cases::sort_named;
 pub use error::ElabError;
 pub use example_sorts::calls_fault;
-pub use functions::{open_functions, type_named};
+pub use functions::{declarations_fault, open_functions, type_named};
 pub use open::{OpenExp, OpenExps, OpenNode};
 pub use opening::{opened, opened_all, relation_named};
 pub use sort_passes::sort_fault;

@@ -2,9 +2,9 @@
 ghost use Rattle.std.specs.Prelude.{◌≤◌, length, IfOk};
 
 use rule_core::Names;
-use sexpr_core::read_whole;
 use sig_core::{Bytes, Signature};
 use sort_core::{OpenExp, Variables, opened};
+use spelling_tests::forms_of;
 use std::alloc::{AllocError, Global};
 use syntax_core::expression_of;
 
@@ -47,7 +47,7 @@ pub(crate) fn expression(alloc: Global, text: &[u8]) -> Result<Option<OpenExp>, 
     if text.len() > 1000 {
         return Ok(None);
     }
-    let Some(forest) = read_whole(alloc, text)? else {
+    let Some(forest) = forms_of(alloc, text)? else {
         return Ok(None);
     };
     let Some(form) = forest.get(0) else {

@@ -2,7 +2,7 @@ ghost use Rattle.std.specs.Prelude.{◌≡◌, ◌++◌, [], ◌∷◌, List};
 ghost use Rattle.syntax_core.specs.declared.commands.Head.{Head};
 ghost use Rattle.syntax_core.specs.Commands.{head_named, has_end, has_wanted, may_follow};
 
-use crate::heads::is_word;
+use sig_core::is_word;
 
 /// The commands of a problem file, by the words that they begin with.
 #[derive(Clone, Copy, Debug, PartialEq, Eq)]

@@ -5,13 +5,7 @@ ghost use Rattle.syntax_core.specs.Roles.{is_application, is_body, is_conjunct, 
 
 use crate::roles::Role;
 use expr_core::{operator_named, takes};
-use sig_core::is_reserved;
-
-pub fn is_word(name: &[u8], word: &[u8]) -> bool
-    ensures { result ≡ same_name word.now name.now }
-{
-    word == name
-}
+use sig_core::{is_reserved, is_word};
 
 /// Whether a name and so many operands make an expression: an operator that takes them, or a word that isn't reserved.
 fn is_application(name: &[u8], operands: usize) -> bool

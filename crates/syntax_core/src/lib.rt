@@ -16,8 +16,6 @@ mod reading;
 mod roles;
 mod shapes;
 mod syntax;
-#[cfg(test)]
-mod tests;
 
 pub use access::{begins, item_of, items_at, others_of};
 pub use bodies::{body_of, calls_of};
@@ -27,7 +25,6 @@ pub use expressions::{application_of, expression_of};
 pub use fault::Fault;
 pub use functions::functions_of;
 pub use grammars::{constructors_in, nonterminals_of, type_names};
-pub use heads::is_word;
 pub use literal::{
     Literal, digits_place, is_negative, is_out_of_range, literal_named, literal_of, negative,
     place_of_exp, positive, sort_of_literal,

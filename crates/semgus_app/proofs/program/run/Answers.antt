@@ -1,7 +1,7 @@
 use Rattle.std.proofs.Common.{List, ℕ, subst}
 use Rattle.semgus_app.proofs.Dues.{some_same}
 use Rattle.semgus_app.specs.Outputs.{IsPrinted}
-use Rattle.semgus_app.proofs.Outcomes.{Ran, bad_words_clause, output_clause, memory_clause, due_clause, complete_clause, found_clause, no_term_clause, cannot_open_clause, read_fault_clause, absent_clause, told_clause, line_clause, printed_line}
+use Rattle.semgus_app.proofs.Outcomes.{Ran, bad_words_clause, output_clause, memory_clause, due_clause, complete_clause, found_clause, no_term_clause, shown_clause, valid_clause, cannot_open_clause, read_fault_clause, absent_clause, second_absent_clause, told_clause, line_clause, printed_line}
 use Rattle.semgus_app.proofs.program.run.Given.{Over}
 use Rattle.semgus_app.proofs.program.run.Goals as goal
 
@@ -39,6 +39,12 @@ returns-in-Ok-clause-found g c = found_clause _ _ _ _ _ _ _ _ _ _ _ _ (ran g c)
 pub returns-in-Ok-clause-no_term : goal.returns-in-Ok-clause-no_term
 returns-in-Ok-clause-no_term g c = no_term_clause _ _ _ _ _ _ _ _ _ _ _ _ (ran g c)
 
+pub returns-in-Ok-clause-shown : goal.returns-in-Ok-clause-shown
+returns-in-Ok-clause-shown g c = shown_clause _ _ _ _ _ _ _ _ _ _ _ _ (ran g c)
+
+pub returns-in-Ok-clause-valid : goal.returns-in-Ok-clause-valid
+returns-in-Ok-clause-valid g c = valid_clause _ _ _ _ _ _ _ _ _ _ _ _ (ran g c)
+
 pub returns-in-Ok-clause-cannot_open : goal.returns-in-Ok-clause-cannot_open
 returns-in-Ok-clause-cannot_open g c = cannot_open_clause _ _ _ _ _ _ _ _ _ _ _ _ (ran g c)
 
@@ -47,6 +53,9 @@ returns-in-Ok-clause-read_fault g c = read_fault_clause _ _ _ _ _ _ _ _ _ _ _ _ 
 
 pub returns-in-Ok-clause-not_held : goal.returns-in-Ok-clause-not_held
 returns-in-Ok-clause-not_held g c = absent_clause _ _ _ _ _ _ _ _ _ _ _ _ (ran g c)
+
+pub returns-in-Ok-clause-second_not_held : goal.returns-in-Ok-clause-second_not_held
+returns-in-Ok-clause-second_not_held g c = second_absent_clause _ _ _ _ _ _ _ _ _ _ _ _ (ran g c)
 
 pub returns-in-Ok-clause-steady_opens : goal.returns-in-Ok-clause-steady_opens
 returns-in-Ok-clause-steady_opens g c = told_clause _ _ _ _ _ _ _ _ _ _ _ _ (ran g c)

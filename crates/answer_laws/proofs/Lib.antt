@@ -1,0 +1,17 @@
+pub mod Again
+pub mod Counting
+pub mod Forms
+pub mod Lines
+pub mod Literals
+pub mod Names
+pub mod NodeLines
+pub mod Numerals
+pub mod Places
+pub mod Spellable
+pub mod StepLines
+pub mod Taken
+pub mod Terms
+pub mod Texts
+pub mod Valid
+pub mod Values
+pub mod Whole

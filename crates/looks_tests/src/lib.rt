@@ -1,0 +1,9 @@
+//! Tests of how many marks a search takes, and of the size of the term that it finds.
+#![tactic(auto)]
+
+#[cfg(test)]
+mod files;
+#[cfg(test)]
+mod looks;
+#[cfg(test)]
+mod searching;

@@ -1,7 +1,0 @@
-use Rattle.std.proofs.Common.{◌≡◌, ◌++◌, map, drop}
-use Rattle.sig_core.specs.declared.signature.Param.{Param}
-use Rattle.sig_core.specs.Signatures.{inputs_of}
-use Rattle.marks_core.proofs.examples.inputs_of.Given as goal
-
-abbrev pub invariant-loop-param : goal.invariant-loop-param
-invariant-loop-param l = l.inputs ++ inputs_of (map (λ (p : Param). p.kind) (drop l.param-index l.params)) l.rest ≡ inputs_of (map (λ (p : Param). p.kind) l.params) l.args

@@ -1,0 +1,114 @@
+//! Answer texts that are due.
+
+/// Of the greater of two numbers.
+pub(crate) const MAX2: &str = "(answer 1)
+(term ($ite ($< $x $y) $y $x))
+(size 6)
+(node 0 $x)
+(node 1 $y)
+(node 2 $< 0 1)
+(node 3 $ite 2 1 0)
+(step 0 E.Sem 0 0 (4 2 4) ())
+(step 1 E.Sem 1 0 (4 2 2) ())
+(step 2 B.Sem 2 0 (4 2 false 4 2) (0 1))
+(step 3 E.Sem 3 0 (4 2 4 false 2 4) (2 1 0))
+(step 4 E.Sem 0 0 (2 5 2) ())
+(step 5 E.Sem 1 0 (2 5 5) ())
+(step 6 B.Sem 2 0 (2 5 true 2 5) (4 5))
+(step 7 E.Sem 3 0 (2 5 5 true 5 2) (6 5 4))
+(derived 0 3)
+(derived 1 7)
+";
+
+/// Of the first term, where there are no examples.
+pub(crate) const FIRST: &str = "(answer 1)
+(term $x)
+(size 1)
+(node 0 $x)
+";
+
+/// Of a doubling that reaches the least number.
+pub(crate) const DBL_MIN: &str = "(answer 1)
+(term ($dbl $n))
+(size 2)
+(node 0 $n)
+(node 1 $dbl 0)
+(step 0 S 0 0 ((- 85070591730234615865843651857942052864)) ())
+(step 1 S 1 0 ((- 170141183460469231731687303715884105728) (- 85070591730234615865843651857942052864)) (0))
+(derived 0 1)
+";
+
+/// Of a child that is evaluated at another input.
+pub(crate) const SHIFT: &str = "(answer 1)
+(term ($shift $x))
+(size 2)
+(node 0 $x)
+(node 1 $shift 0)
+(step 0 S 0 0 (1 1) ())
+(step 1 S 1 0 (0 1 1) (0))
+(derived 0 1)
+";
+
+/// Of the constant whose derivation is low.
+pub(crate) const FAST: &str = "(answer 1)
+(term ($wrap $fast))
+(size 2)
+(node 0 $fast)
+(node 1 $wrap 0)
+(step 0 Sem 0 0 (0 0) ())
+(step 1 Sem 1 0 (0 1 0) (0))
+(derived 0 1)
+";
+
+/// Of the earlier constant, whose derivation is high.
+pub(crate) const SLOW: &str = "(answer 1)
+(term ($wrap $slow))
+(size 2)
+(node 0 $slow)
+(node 1 $wrap 0)
+(step 0 Aux 0 0 (0 0) ())
+(step 1 Sem 0 0 (0 0 0) (0))
+(step 2 Sem 1 0 (0 1 0) (1))
+(derived 0 2)
+";
+
+/// Of the remainder of the least number by -1.
+pub(crate) const LEAST: &str = "(answer 1)
+(term $mod)
+(size 1)
+(node 0 $mod)
+(step 0 S 0 0 ((- 170141183460469231731687303715884105728) 0) ())
+(derived 0 0)
+";
+
+/// Of a value that is derived in two ways: the lesser values come first, though their rule comes last.
+pub(crate) const PICK: &str = "(answer 1)
+(term $a)
+(size 1)
+(node 0 $a)
+(step 0 T 0 1 (1) ())
+(step 1 S 0 0 (0 1) (0))
+(derived 0 1)
+";
+
+/// Of a grammar with a production twice.
+pub(crate) const TINY: &str = "(answer 1)
+(term $a)
+(size 1)
+(node 0 $a)
+(step 0 S 0 0 (1) ())
+(derived 0 0)
+";
+
+/// Of rules that are numbered in the order of their leaves.
+pub(crate) const RULES: &str = "(answer 1)
+(term $a)
+(size 1)
+(node 0 $a)
+(step 0 S 0 3 (3) ())
+(step 1 S 0 1 (1) ())
+(step 2 S 0 2 (2) ())
+(derived 0 0)
+(derived 1 1)
+(derived 2 2)
+";

@@ -1,0 +1,49 @@
+use crate::files::MAX2;
+use crate::running::{check_over, file_of, words_of};
+use semgus_app::{Status, run};
+use semgus_io::MemorySink;
+use std::alloc::{AllocError, Global};
+use std::process::Abort;
+use std::test::Fail;
+
+#[test]
+fn a_second_take_that_fails(rt: HostRuntime) -> Result<(), Fail> {
+    let mut files = file_of(rt.alloc(), MAX2)?;
+    files.piece(100);
+    files.fail_take(2)?;
+    check_over(
+        &rt,
+        rt.alloc(),
+        "solve p.sl 3 6",
+        &mut files,
+        Status::ReadFault,
+        "read fault\n",
+    )?;
+    Ok(())
+}
+
+/// What a sink holds that takes 3 bytes at a time, where this put fails.
+fn written_until(
+    rt: &impl Abort,
+    alloc: Global,
+    failing: u64,
+    wanted: &[u8],
+) -> Result<(), AllocError> {
+    let mut files = file_of(alloc, MAX2)?;
+    let words = words_of(alloc, "solve p.sl 3 6")?;
+    let mut out = MemorySink::new(alloc, 4096)?;
+    out.piece(3);
+    out.fail_put(failing)?;
+    let status = run(alloc, &words, &mut files, &mut out);
+    assert!(rt; status == Status::WriteFault);
+    assert!(rt; out.written() == wanted);
+    Ok(())
+}
+
+#[test]
+fn a_put_that_fails(rt: HostRuntime) -> Result<(), Fail> {
+    written_until(&rt, rt.alloc(), 1, b"")?;
+    written_until(&rt, rt.alloc(), 2, b"(an")?;
+    written_until(&rt, rt.alloc(), 5, b"(answer 1)\n(")?;
+    Ok(())
+}

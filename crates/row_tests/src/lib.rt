@@ -1,0 +1,15 @@
+//! Tests of the whole program over files in memory: words and files with the status and the output that are due.
+#![tactic(auto)]
+
+#[cfg(test)]
+mod answers;
+#[cfg(test)]
+mod failing;
+#[cfg(test)]
+mod files;
+#[cfg(test)]
+mod readings;
+#[cfg(test)]
+mod rows;
+#[cfg(test)]
+mod running;
