@@ -1,4 +1,0 @@
-pub mod Fitting
-pub mod Lists
-pub mod Sound
-pub mod Typed

@@ -1,5 +1,0 @@
-pub mod SpelledForms
-pub mod SpelledNames
-pub mod FormedSignatures
-pub mod SoundProblems
-pub mod FoundAnswers
