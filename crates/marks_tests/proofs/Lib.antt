@@ -1,0 +1,4 @@
+pub mod Fitting
+pub mod Lists
+pub mod Sound
+pub mod Typed

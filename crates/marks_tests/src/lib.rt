@@ -1,0 +1,11 @@
+//! Tests of the lens of marks, on a language in which a constructor looks at its child at another input.
+#![tactic(auto)]
+
+#[cfg(test)]
+mod language;
+#[cfg(test)]
+mod marks;
+#[cfg(test)]
+mod problem;
+#[cfg(test)]
+mod rules;
