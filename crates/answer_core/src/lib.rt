@@ -19,5 +19,5 @@ pub use answer::{Answer, AnswerError, AnswerFault, Verdict};
 pub use checking::check;
 pub use kinds::{Due, Kind, Role};
 pub use laws::one_verdict;
-pub use printing::print_answer;
+pub use printing::{print_answer, put_number};
 pub use reading::read_answer;

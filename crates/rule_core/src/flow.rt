@@ -166,7 +166,8 @@ fn fits_call(signature: &Signature, con: ConId, scope: &[Sort], call: &Call) -> 
         && arguments_fit(scope, call.outputs.as_slice(), params, Mode::Output)
 }
 
-fn same_type(left: Option<TypeId>, right: Option<TypeId>) -> bool
+/// Whether there are two types, and they are the same one.
+pub fn same_type(left: Option<TypeId>, right: Option<TypeId>) -> bool
     ensures { result ≡ same_type left right }
 {
     match (left, right) {

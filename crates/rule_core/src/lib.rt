@@ -9,7 +9,7 @@ mod rule;
 mod rulebook;
 mod terms;
 
-pub use flow::{AddError, FlowFault, input_slots, is_known, learn};
+pub use flow::{AddError, FlowFault, input_slots, is_known, learn, same_type};
 pub use laws::flow_laws;
 pub use rule::{Atom, Atoms, Call, Names, Rule, Var, Vars, Who};
 pub use rulebook::Rulebook;

@@ -1,6 +1,7 @@
 -- The lines that are printed.
 use Rattle.std.specs.Prelude.{◌==◌, ℕ, List, ◌++◌, [], ◌∷◌, Option, Some, None, if◌then◌else◌, codes, decimal}
 use Rattle.syntax_core.specs.declared.fault.Fault.{Fault}
+use Rattle.answer_core.specs.AnswerText.{word}
 use Rattle.semgus_app.specs.declared.status.Flaw.{Flaw}
 use Rattle.semgus_app.specs.declared.status.Flaw.TheVariants as flaw
 use Rattle.semgus_app.specs.declared.status.Status.{Status}
@@ -24,27 +25,23 @@ none_line = codes "none\n"
 abbrev pub valid_line : List ℕ
 valid_line = codes "valid\n"
 
--- a space and a number
-abbrev pub number_word : ℕ → List ℕ
-number_word n = 32 ∷ [] ++ decimal n
-
 abbrev pub refusal_start : Which → List ℕ
 refusal_start which.Problem = codes "refused"
 refusal_start which.Answer = codes "answer refused"
 
 -- `refused PLACE REASON`, and for reason 50 `refused PLACE 50 LIMIT`
 abbrev pub refusal_line : Which → Fault → List ℕ
-refusal_line file fault = refusal_start file ++ number_word fault.place ++ number_word fault.reason
-    ++ (if fault.reason == 50 then number_word fault.limit else []) ++ 10 ∷ []
+refusal_line file fault = refusal_start file ++ word (decimal fault.place) ++ word (decimal fault.reason)
+    ++ (if fault.reason == 50 then word (decimal fault.limit) else []) ++ 10 ∷ []
 
 -- the number of a flaw, and where it is
 abbrev pub flaw_text : Flaw → List ℕ
-flaw_text (flaw.Form fault) = codes " 1" ++ number_word fault.place ++ number_word fault.reason
+flaw_text (flaw.Form fault) = codes " 1" ++ word (decimal fault.place) ++ word (decimal fault.reason)
 flaw_text flaw.Nodes = codes " 2"
 flaw_text flaw.Size = codes " 3"
 flaw_text flaw.Grammar = codes " 4"
-flaw_text (flaw.Step bad) = codes " 5" ++ number_word bad.step ++ number_word bad.reason
-flaw_text (flaw.Constraint number) = codes " 6" ++ number_word number
+flaw_text (flaw.Step bad) = codes " 5" ++ word (decimal bad.step) ++ word (decimal bad.reason)
+flaw_text (flaw.Constraint number) = codes " 6" ++ word (decimal number)
 
 abbrev pub flaw_line : Flaw → List ℕ
 flaw_line f = codes "invalid" ++ flaw_text f ++ 10 ∷ []

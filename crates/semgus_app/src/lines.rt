@@ -1,9 +1,10 @@
-ghost use Rattle.std.specs.Prelude.{◌≡◌, ◌==◌, [], ◌∷◌, ◌++◌, if◌then◌else◌, IfOk, OnOk};
-ghost use Rattle.semgus_app.specs.Lines.{cannot_open_line, read_fault_line, refusal_start, refusal_line, flaw_line, flaw_text, number_word};
+ghost use Rattle.std.specs.Prelude.{◌≡◌, ◌==◌, [], ◌∷◌, ◌++◌, if◌then◌else◌, IfOk, OnOk, decimal};
+ghost use Rattle.answer_core.specs.AnswerText.{word};
+ghost use Rattle.semgus_app.specs.Lines.{cannot_open_line, read_fault_line, refusal_start, refusal_line, flaw_line, flaw_text};
 
 use crate::due::Due;
 use crate::status::{Flaw, Status, Which};
-use itoa::Buffer;
+use answer_core::put_number;
 use sig_core::Bytes;
 use std::alloc::{AllocError, Global};
 use syntax_core::Fault;
@@ -60,7 +61,7 @@ fn put_start(which: Which, out: &mut Bytes) -> Result<(), AllocError>
 
 /// The number of the limit, where one is passed.
 fn put_limit(fault: Fault, out: &mut Bytes) -> Result<(), AllocError>
-    ensures { OnOk result (out.new ≡ out.old ++ (if fault.reason == 50 then number_word fault.limit else [])) }
+    ensures { OnOk result (out.new ≡ out.old ++ (if fault.reason == 50 then word (decimal fault.limit) else [])) }
 {
     if fault.reason == LIMIT_PASSED {
         put_number(u64::from(fault.limit), out)?;
@@ -101,18 +102,9 @@ fn put_flaw(flaw: Flaw, out: &mut Bytes) -> Result<(), AllocError>
 
 /// The number of a flaw, a place and a reason.
 fn put_place(start: &[u8], place: u64, reason: u8, out: &mut Bytes) -> Result<(), AllocError>
-    ensures { OnOk result (out.new ≡ out.old ++ (start.now ++ number_word place ++ number_word reason)) }
+    ensures { OnOk result (out.new ≡ out.old ++ (start.now ++ word (decimal place) ++ word (decimal reason))) }
 {
     out.append(start)?;
     put_number(place, out)?;
     put_number(u64::from(reason), out)
-}
-
-/// A space and a number.
-fn put_number(number: u64, out: &mut Bytes) -> Result<(), AllocError>
-    ensures { OnOk result (out.new ≡ out.old ++ number_word number) }
-{
-    let mut buffer = Buffer::new();
-    out.append(b" ")?;
-    out.append(buffer.format(number).as_bytes())
 }

@@ -2,7 +2,6 @@
 ghost use Rattle.std.specs.Prelude.{◌≡◌, Some, None, option_map, if◌then◌else◌, IfOk};
 ghost use Rattle.std.specs.List.{flat_map, zip};
 ghost use Rattle.std.specs.Option.{option_copied};
-ghost use Rattle.rule_core.specs.Flow.{same_type};
 ghost use Rattle.syntax_core.specs.Syntax.{atom_of, item_of, items_at, name_of, nonterminals_of};
 ghost use Rattle.name_core.specs.Faults.{first, found_from};
 ghost use Rattle.sort_core.specs.Relations.{child_type, sort_of_pair, type_named};
@@ -10,6 +9,7 @@ ghost use Rattle.sort_core.specs.Sorts.{constructor_at, group_faults, makes, pro
 
 use crate::functions::type_named;
 use items::at;
+use rule_core::same_type;
 use sexpr_core::Sexpr;
 use sig_core::{Constructor, Signature, TypeId};
 use std::alloc::{AllocError, Global};
@@ -46,15 +46,6 @@ fn nonterminal_type(signature: &Signature, pairs: &[Pair], name: &[u8]) -> Optio
         }
     }
     None
-}
-
-fn same_type(one: Option<TypeId>, other: Option<TypeId>) -> bool
-    ensures { result ≡ same_type one other }
-{
-    match (one, other) {
-        (Some(one), Some(other)) => one.0 == other.0,
-        _ => false,
-    }
 }
 
 /// The fault of argument k of a production of this constructor.
