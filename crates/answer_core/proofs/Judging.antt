@@ -24,7 +24,7 @@ use Rattle.answer_core.specs.Facts.{is_fact, is_found}
 use Rattle.answer_core.specs.Readings.{TreeAnswer}
 use Rattle.answer_core.specs.Subterms.{is_same}
 use Rattle.answer_core.specs.Verdicts.{Test, nodes_listed, size_right, in_language, steps_valid, constraints_met, number_of, IsFirstUnmet, Meets, derived_fact}
-use Rattle.answer_core.proofs.Valid.{IsValid-within}
+use Rattle.step_laws.proofs.Valid.{IsValid-within}
 
 same_value-Decides : (v w : Value) → Decides (same_value v w) (v ≡ w)
 same_value-Decides (value.Int m) (value.Int n) = Decides-like (int_eq m n) (λ h. ap value.Int h) (λ h. (cc)) (Decides-int_eq m n)

@@ -11,6 +11,5 @@ pub mod Tests
 pub mod Tidying
 pub mod Uniqueness
 pub mod Using
-pub mod Valid
 pub mod ValueEq
 pub mod ValueOrder

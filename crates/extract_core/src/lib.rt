@@ -10,5 +10,4 @@ mod places;
 pub use derivation::derive;
 pub use laws::{
     first_faults, first_steps_derive, one_addition, one_list_of_first_steps, tidy_is_valid,
-    valid_is_within,
 };
