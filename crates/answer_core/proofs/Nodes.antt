@@ -6,7 +6,7 @@ use Rattle.std.proofs.lemmas.List.{length-map}
 use Rattle.sig_core.specs.declared.ids.ConId.{ConId}
 use Rattle.sig_core.specs.Signatures.{Declarations}
 use Rattle.sexpr_core.specs.declared.form.Sexpr.{Sexpr}
-use Rattle.sexpr_core.specs.Access.{place_of}
+use Rattle.sexpr_core.specs.Access.{place_of, item_of, parts_of}
 use Rattle.term_core.specs.declared.ids.TermId.{TermId}
 use Rattle.term_core.specs.declared.tree.Tree.{Tree}
 use Rattle.term_core.specs.Banks.{IsLive, tree_of}
@@ -14,7 +14,7 @@ use Rattle.term_core.specs.Terms.{node, size}
 use Rattle.term_core.proofs.Order.{size-node}
 use Rattle.answer_core.specs.Drafts.{IsNode}
 use Rattle.answer_core.specs.Names.{constructor_at}
-use Rattle.answer_core.specs.Numbers.{item_of, number_of, parts_of}
+use Rattle.answer_core.specs.Numbers.{number_of}
 use Rattle.answer_core.specs.Readings.{constructor_or, else_bad, fault, first_fault, node_at, node_misnumbered, node_of, not_below, not_the_number}
 use Rattle.answer_core.specs.Shapes.{bad_if}
 use Rattle.answer_core.proofs.Banking.{all_found, trees_found}

@@ -15,10 +15,10 @@ use Rattle.term_core.specs.declared.tree.Tree.{Tree}
 use Rattle.term_core.specs.Terms.{type_of}
 use Rattle.grammar_core.specs.Refusals.{same_type}
 use Rattle.sexpr_core.specs.declared.form.Sexpr.{Sexpr}
-use Rattle.sexpr_core.specs.Access.{place_of}
+use Rattle.sexpr_core.specs.Access.{place_of, parts_of, item_of, others_of}
 use Rattle.answer_core.specs.declared.kinds.Kind.{Kind}
 use Rattle.answer_core.specs.declared.kinds.Kind.TheVariants as kind
-use Rattle.answer_core.specs.Numbers.{parts_of, item_of, others_of, text_of, number_of}
+use Rattle.answer_core.specs.Numbers.{text_of, number_of}
 use Rattle.answer_core.specs.Shapes.{bad_if, deepest}
 
 -- the constructor that the symbol names

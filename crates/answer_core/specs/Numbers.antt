@@ -1,34 +1,16 @@
 -- The numbers and the literals that forms spell.
-use Rattle.std.specs.Prelude.{ℕ, zero, suc, ℤ, pos, negsuc, ◌+◌, ◌*◌, ◌-◌, true, false, Bool, not, ◌&&◌, ◌||◌, ◌==◌, if◌then◌else◌, Option, Some, is_some, option_map, unwrap_or, List, [], ◌∷◌, drop, length, slice_get, codes}
-use Rattle.std.specs.List.{list_all}
+use Rattle.std.specs.Prelude.{ℕ, ℤ, pos, true, false, Bool, ◌&&◌, ◌||◌, ◌==◌, if◌then◌else◌, Option, Some, is_some, option_map, unwrap_or, List, [], drop, length, codes}
 use Rattle.sig_core.specs.declared.value.Value.{Value}
 use Rattle.sig_core.specs.declared.value.Value.TheVariants as value
 use Rattle.sig_core.specs.Names.{same_name}
 use Rattle.sig_core.specs.Values.{ranged}
 use Rattle.sexpr_core.specs.declared.form.Sexpr.{Sexpr}
-use Rattle.sexpr_core.specs.Access.{symbol_of, numeral_of, items_of}
-use Rattle.sexpr_core.specs.Lexicon.{is_digit}
-
--- the items of a list; a token has none
-abbrev pub parts_of : Sexpr → List Sexpr
-parts_of form = unwrap_or (items_of form) []
-
--- the item in this place, or the form itself where there is none
-abbrev pub item_of : ℕ → Sexpr → Sexpr
-item_of k form = unwrap_or (slice_get (parts_of form) k) form
-
--- the items after the first
-abbrev pub others_of : Sexpr → List Sexpr
-others_of form = drop 1 (parts_of form)
+use Rattle.sexpr_core.specs.Access.{symbol_of, numeral_of, parts_of, item_of}
+use Rattle.sexpr_core.specs.Numerals.{is_negative, minus, number_from}
 
 -- the name of a symbol, empty where the form is none
 abbrev pub text_of : Sexpr → List ℕ
 text_of form = unwrap_or (symbol_of form) []
-
--- the number of a list of digits, after a number
-abbrev pub number_from : ℕ → List ℕ → ℕ
-number_from n [] = n
-number_from n (digit ∷ digits) = number_from (n * 10 + (digit - 48)) digits
 
 -- the number of a numeral
 unfoldable pub number_of : Sexpr → ℕ
@@ -37,17 +19,6 @@ number_of form = number_from 0 (unwrap_or (numeral_of form) [])
 -- the number of a symbol that is `-` and a numeral
 unfoldable pub number_after_sign : List ℕ → ℕ
 number_after_sign name = number_from 0 (drop 1 name)
-
--- `0`, or digits that do not begin with 0
-abbrev pub is_number : List ℕ → Bool
-is_number [] = false
-is_number (first ∷ []) = is_digit first
-is_number (first ∷ second ∷ others) = not (first == 48) && list_all is_digit (first ∷ second ∷ others)
-
--- `-` followed directly by a numeral
-unfoldable pub is_negative : List ℕ → Bool
-is_negative [] = false
-is_negative (sign ∷ digits) = (sign == 45) && is_number digits
 
 -- `(- n)` with a numeral n
 unfoldable pub is_negated : Sexpr → Bool
@@ -61,10 +32,6 @@ is_constant name = same_name (codes "true") name || (same_name (codes "false") n
 unfoldable pub is_literal : Sexpr → Bool
 is_literal form = is_some (numeral_of form) || (is_negated form || is_constant (text_of form))
 
-abbrev pub negative : ℕ → ℤ
-negative zero = pos 0
-negative (suc n) = negsuc n
-
 -- the value of a whole number, if it is in range
 abbrev pub whole : ℤ → Option Value
 whole z = option_map value.Int (ranged z)
@@ -73,11 +40,11 @@ unfoldable pub constant : List ℕ → Option Value
 constant name =
     if same_name (codes "true") name then Some (value.Bool true)
     else if same_name (codes "false") name then Some (value.Bool false)
-    else whole (negative (number_after_sign name))
+    else whole (minus (number_after_sign name))
 
 -- the value of a literal, if it is in range
 unfoldable pub literal : Sexpr → Option Value
 literal form =
     if is_some (numeral_of form) then whole (pos (number_of form))
-    else if is_negated form then whole (negative (number_of (item_of 1 form)))
+    else if is_negated form then whole (minus (number_of (item_of 1 form)))
     else constant (text_of form)

@@ -11,13 +11,13 @@ use Rattle.term_core.specs.Banks.{leaf}
 use Rattle.term_core.specs.Terms.{node, size}
 use Rattle.deriv_core.specs.Steps.{TreeStep}
 use Rattle.sexpr_core.specs.declared.form.Sexpr.{Sexpr}
-use Rattle.sexpr_core.specs.Access.{place_of}
+use Rattle.sexpr_core.specs.Access.{place_of, parts_of, item_of, others_of}
 use Rattle.answer_core.specs.declared.answer.AnswerFault.{AnswerFault}
 use Rattle.answer_core.specs.declared.kinds.Due.{Due}
 use Rattle.answer_core.specs.declared.kinds.Due.TheVariants as due
 use Rattle.answer_core.specs.declared.kinds.Kind.{Kind}
 use Rattle.answer_core.specs.declared.kinds.Kind.TheVariants as kind
-use Rattle.answer_core.specs.Numbers.{parts_of, item_of, others_of, number_of, literal}
+use Rattle.answer_core.specs.Numbers.{number_of, literal}
 use Rattle.answer_core.specs.Shapes.{bad_if, deepest, due_after, first, kind_due, misfits}
 use Rattle.answer_core.specs.Names.{constructor_at, relation_at, misnamed}
 

@@ -3,14 +3,14 @@ use Rattle.std.specs.Prelude.{ℕ, zero, suc, Bool, true, false, not, ◌&&◌, 
 use Rattle.std.specs.List.{flat_map}
 use Rattle.sig_core.specs.Names.{same_name}
 use Rattle.sexpr_core.specs.declared.form.Sexpr.{Sexpr}
-use Rattle.sexpr_core.specs.Access.{place_of, symbol_of, numeral_of, items_of, is_numeral}
+use Rattle.sexpr_core.specs.Access.{place_of, symbol_of, numeral_of, items_of, is_numeral, parts_of, item_of, others_of}
 use Rattle.answer_core.specs.declared.kinds.Kind.{Kind}
 use Rattle.answer_core.specs.declared.kinds.Kind.TheVariants as kind
 use Rattle.answer_core.specs.declared.kinds.Due.{Due}
 use Rattle.answer_core.specs.declared.kinds.Due.TheVariants as due
 use Rattle.answer_core.specs.declared.kinds.Role.{Role}
 use Rattle.answer_core.specs.declared.kinds.Role.TheVariants as role
-use Rattle.answer_core.specs.Numbers.{parts_of, item_of, others_of, text_of, is_literal}
+use Rattle.answer_core.specs.Numbers.{text_of, is_literal}
 
 abbrev pub when : {X : Type 0} → Bool → X → Option X
 when b x = if b then Some x else None

@@ -2,8 +2,8 @@
 ghost use Rattle.std.specs.Prelude.{◌≡◌, length};
 ghost use Rattle.answer_core.specs.Shapes.{due_after, has_items, kind_due, kind_named, may_come, role_in};
 
-use crate::forms::{head_of, parts_of, text_of};
-use sexpr_core::Sexpr;
+use crate::forms::{head_of, text_of};
+use sexpr_core::{Sexpr, parts_of};
 use sig_core::is_word;
 
 /// What a form of an answer tells.

@@ -5,10 +5,9 @@ use Rattle.sexpr_core.specs.declared.form.Nest.{Nest}
 use Rattle.sexpr_core.specs.declared.form.Sexpr as sexpr
 use Rattle.sexpr_core.specs.declared.form.Sexpr.{Sexpr, out-Sexpr, roll-Sexpr, the_lemmas}
 use Rattle.sexpr_core.specs.declared.form.Sexpr.TheOpen.{Sexpr-F}
-use Rattle.sexpr_core.specs.Access.{symbol_of, numeral_of, items_of}
+use Rattle.sexpr_core.specs.Access.{symbol_of, numeral_of, items_of, parts_of, item_of}
 use Rattle.sexpr_core.specs.Respelling.{placeless}
 use Rattle.sexpr_core.specs.Spelling.{atom}
-use Rattle.answer_core.specs.Numbers.{parts_of, item_of}
 
 -- the canonical forms, with 0 for each place
 

@@ -1,4 +1,3 @@
-pub mod Again
 pub mod Counting
 pub mod Forms
 pub mod Lines

@@ -15,12 +15,12 @@ use Rattle.sexpr_core.specs.Respelling.{AreSpellable}
 use Rattle.sexpr_core.specs.Respelling as able
 use Rattle.sexpr_core.specs.Spelling.{atom}
 use Rattle.sexpr_core.specs.Texts.{form_text}
+use Rattle.sexpr_core.proofs.Respelled.{form_text-Numeral}
 use Rattle.term_core.specs.declared.tree.Tree.{Tree}
 use Rattle.term_core.specs.Terms.{con_of, kids_of, size}
 use Rattle.deriv_core.specs.Steps.{TreeStep}
 use Rattle.answer_core.specs.AnswerText.{constructor_name, constructor_text, derived_line, ending, heading_text, list_text, node_line, numbered_lines, place_of_node, relation_name, relation_text, step_line, term_text, word}
 use Rattle.answer_laws.specs.Names.{term_nesting, HasSpelledNames}
-use Rattle.answer_laws.proofs.Again.{form_text-Numeral}
 use Rattle.answer_laws.proofs.Forms.{list, numeral, symbol}
 use Rattle.answer_laws.proofs.Literals.{literal_form, number_form}
 use Rattle.answer_laws.proofs.Names.{constructor_spelled, relation_spelled}

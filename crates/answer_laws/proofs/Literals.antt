@@ -9,8 +9,9 @@ use Rattle.sig_core.specs.declared.value.Value.TheVariants as value
 use Rattle.sig_core.specs.Names.{same_name}
 use Rattle.sig_core.specs.Values.{is_in_range, is_value}
 use Rattle.sexpr_core.specs.declared.form.Sexpr.{Sexpr}
-use Rattle.sexpr_core.specs.Access.{symbol_of, numeral_of}
-use Rattle.answer_core.specs.Numbers.{parts_of, item_of, text_of, number_from, number_of, is_constant, is_literal, is_negated, literal, constant, negative, whole}
+use Rattle.sexpr_core.specs.Access.{symbol_of, numeral_of, parts_of, item_of}
+use Rattle.sexpr_core.specs.Numerals.{number_from, minus}
+use Rattle.answer_core.specs.Numbers.{text_of, number_of, is_constant, is_literal, is_negated, literal, constant, whole}
 use Rattle.answer_laws.proofs.Forms.{Same, begins, ends, is_list, item_is, list, numeral, numeral_of-list, numeral_of-numeral, numeral_of-symbol, parts_are, no_items, no_parts, same_numeral, same_symbol, symbol, symbol_of-symbol}
 use Rattle.answer_laws.proofs.Numerals.{numeral_read}
 

@@ -9,6 +9,7 @@ use Rattle.sig_core.specs.declared.ids.TypeId.{TypeId}
 use Rattle.sig_core.specs.Signatures.{Declarations}
 use Rattle.sig_core.specs.WellFormed.{IsWellFormed}
 use Rattle.sexpr_core.specs.declared.form.Sexpr.{Sexpr}
+use Rattle.sexpr_core.specs.Access.{item_of, parts_of}
 use Rattle.term_core.specs.declared.tree.Tree.{Tree}
 use Rattle.term_core.specs.Banks.{leaf}
 use Rattle.term_core.specs.Terms.{con_of, kids_of, node, size, type_of}
@@ -20,7 +21,7 @@ use Rattle.answer_core.specs.declared.kinds.Kind.TheVariants as kind
 use Rattle.answer_core.specs.declared.kinds.Role.TheVariants as role
 use Rattle.answer_core.specs.AnswerText.{constructor_name, place_of_node}
 use Rattle.answer_core.specs.Names.{args_in, args_of, fits_type, kid_type}
-use Rattle.answer_core.specs.Numbers.{item_of, number_of, parts_of, text_of}
+use Rattle.answer_core.specs.Numbers.{number_of, text_of}
 use Rattle.answer_core.specs.Readings.{constructor_or, form_reading, node_of, not_below}
 use Rattle.answer_core.specs.Shapes.{item_misfits, number_misfits, role_misfits}
 use Rattle.answer_core.proofs.Nodes.{node_good}

@@ -4,8 +4,8 @@ use Rattle.std.specs.List.{list_all}
 use Rattle.std.proofs.lemmas.Bool.Decides.{nat_tests}
 use Rattle.std.proofs.lemmas.Fmt.{decimal_by_steps_wide}
 use Rattle.sexpr_core.specs.Lexicon.{is_digit, IsNumeral}
+use Rattle.sexpr_core.specs.Numerals.{number_from}
 use Rattle.sexpr_core.proofs.Bytes.{list_all-more}
-use Rattle.answer_core.specs.Numbers.{number_from}
 use Rattle.answer_laws.specs.Laws.{NumeralsReadBack}
 
 -- the first byte is there and is no 0

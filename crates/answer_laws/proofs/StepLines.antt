@@ -8,6 +8,7 @@ use Rattle.sig_core.specs.declared.value.Value.{Value}
 use Rattle.sig_core.specs.Signatures.{Declarations}
 use Rattle.sig_core.specs.WellFormed.{IsWellFormed}
 use Rattle.sexpr_core.specs.declared.form.Sexpr.{Sexpr}
+use Rattle.sexpr_core.specs.Access.{item_of, parts_of}
 use Rattle.term_core.specs.declared.tree.Tree.{Tree}
 use Rattle.term_core.specs.Banks.{leaf}
 use Rattle.deriv_core.specs.Steps.{TreeStep}
@@ -16,7 +17,7 @@ use Rattle.answer_core.specs.declared.kinds.Due.TheVariants as due
 use Rattle.answer_core.specs.declared.kinds.Kind.TheVariants as kind
 use Rattle.answer_core.specs.AnswerText.{place_of_node, relation_name}
 use Rattle.answer_core.specs.Names.{relation_at}
-use Rattle.answer_core.specs.Numbers.{item_of, number_of, parts_of, text_of}
+use Rattle.answer_core.specs.Numbers.{number_of, text_of}
 use Rattle.answer_core.specs.Readings.{form_reading, node_at, not_in_range, step_of, value_of}
 use Rattle.answer_core.specs.Shapes.{bad_if, item_misfits, may_come, number_misfits, value_misfits}
 use Rattle.answer_laws.proofs.Forms.{Same, begins, ends, is_list, item_is, list, parts_are, symbol}

@@ -7,6 +7,7 @@ use Rattle.sig_core.specs.Names.{same_name}
 use Rattle.sig_core.specs.Signatures.{Declarations}
 use Rattle.sig_core.specs.WellFormed.{IsWellFormed}
 use Rattle.sexpr_core.specs.declared.form.Sexpr.{Sexpr}
+use Rattle.sexpr_core.specs.Access.{item_of, others_of, parts_of}
 use Rattle.term_core.specs.declared.tree.Tree.{Tree}
 use Rattle.term_core.specs.Terms.{size}
 use Rattle.term_core.specs.Typings.{HasType}
@@ -16,7 +17,7 @@ use Rattle.answer_core.specs.declared.kinds.Due.TheVariants as due
 use Rattle.answer_core.specs.declared.kinds.Kind.{Kind}
 use Rattle.answer_core.specs.declared.kinds.Kind.TheVariants as kind
 use Rattle.answer_core.specs.Names.{misnamed, term_misnamed}
-use Rattle.answer_core.specs.Numbers.{item_of, number_of, others_of, parts_of, text_of}
+use Rattle.answer_core.specs.Numbers.{number_of, text_of}
 use Rattle.answer_core.specs.Readings.{Told, first_fault, form_reading, misnumbered, nothing, term_of, told_unless, with_form}
 use Rattle.answer_core.specs.Shapes.{bad_if, deepest, due_after, first, has_items, item_misfits, kind_due, kind_named, may_come, misfits, role_in, role_misfits, when}
 use Rattle.answer_core.proofs.Passes.{good_names}

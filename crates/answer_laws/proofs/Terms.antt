@@ -8,7 +8,7 @@ use Rattle.sig_core.specs.declared.ids.TypeId.{TypeId}
 use Rattle.sig_core.specs.Signatures.{Declarations, owner_in, owner_of}
 use Rattle.sig_core.specs.WellFormed.{IsWellFormed}
 use Rattle.sexpr_core.specs.declared.form.Sexpr.{Sexpr}
-use Rattle.sexpr_core.specs.Access.{place_of, symbol_of}
+use Rattle.sexpr_core.specs.Access.{place_of, symbol_of, item_of, others_of, parts_of}
 use Rattle.sexpr_core.specs.Respelling.{placeless, AreSpellable}
 use Rattle.sexpr_core.specs.Respelling as able
 use Rattle.sexpr_core.specs.Sizes.{greatest}
@@ -23,7 +23,7 @@ use Rattle.term_core.proofs.Induction.{by_children}
 use Rattle.term_core.proofs.Typing.{made_of}
 use Rattle.answer_core.specs.AnswerText.{application_text, constructor_name, constructor_text, list_text, term_text, term_text_step}
 use Rattle.answer_core.specs.Names.{args_in, args_of, constructor_at, fits_type, term_misnamed, term_type}
-use Rattle.answer_core.specs.Numbers.{item_of, others_of, parts_of, text_of}
+use Rattle.answer_core.specs.Numbers.{text_of}
 use Rattle.answer_core.specs.Readings.{constructor_or, term_of}
 use Rattle.answer_core.specs.Shapes.{bad_if, term_misfits}
 use Rattle.answer_laws.specs.Names.{nesting_over, term_nesting, term_nesting_step, HasSpelledNames}

@@ -9,8 +9,8 @@ use Rattle.sig_core.specs.Texts.{literal_text}
 use Rattle.sexpr_core.specs.declared.form.Sexpr.{Sexpr}
 use Rattle.sexpr_core.specs.Spelling.{atom}
 use Rattle.sexpr_core.specs.Texts.{form_text, joined_from}
+use Rattle.sexpr_core.proofs.Respelled.{form_text-List, form_text-Numeral, form_text-Symbol}
 use Rattle.answer_core.specs.AnswerText.{list_text, word}
-use Rattle.answer_laws.proofs.Again.{form_text-List, form_text-Numeral, form_text-Symbol}
 use Rattle.answer_laws.proofs.Forms.{list, symbol}
 use Rattle.answer_laws.proofs.Literals.{literal_form, number_form}
 

@@ -8,8 +8,8 @@ use Rattle.sig_core.specs.declared.value.Value.{Value}
 use Rattle.sig_core.specs.declared.value.Value.TheVariants as value
 use Rattle.sig_core.specs.Values.{is_value}
 use Rattle.sexpr_core.specs.declared.form.Sexpr.{Sexpr}
-use Rattle.sexpr_core.specs.Access.{items_of, place_of, symbol_of}
-use Rattle.answer_core.specs.Numbers.{is_literal, literal, number_of, parts_of}
+use Rattle.sexpr_core.specs.Access.{items_of, place_of, symbol_of, parts_of}
+use Rattle.answer_core.specs.Numbers.{is_literal, literal, number_of}
 use Rattle.answer_core.specs.Readings.{not_below, not_in_range, not_the_number, value_of}
 use Rattle.answer_core.specs.Shapes.{bad_if, list_misfits, number_misfits, value_misfits}
 use Rattle.answer_laws.proofs.Forms.{AreSame, Same, begins, ends, parts_are, symbol}

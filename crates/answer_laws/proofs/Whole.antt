@@ -15,6 +15,7 @@ use Rattle.sexpr_core.specs.Respelling.{AreSpellable}
 use Rattle.sexpr_core.specs.Respelling as able
 use Rattle.sexpr_core.specs.Spelling.{Spelled, blank, nothing}
 use Rattle.sexpr_core.specs.Texts.{form_text}
+use Rattle.sexpr_core.proofs.Respelled.{EachAgain, each_again}
 use Rattle.term_core.specs.declared.tree.Tree.{Tree}
 use Rattle.term_core.specs.Terms.{con_of, kids_of, size, IsSubterm, itself, below}
 use Rattle.term_core.specs.Typings.{HasType}
@@ -32,7 +33,6 @@ use Rattle.answer_core.specs.Shapes.{may_come}
 use Rattle.answer_laws.specs.Answers.{IsAnswerTold, IsStepTold, SpellsAll, text_of_answer}
 use Rattle.answer_laws.specs.Laws.{AnswersReadBack}
 use Rattle.answer_laws.specs.Names.{HasSpelledNames}
-use Rattle.answer_laws.proofs.Again.{EachAgain, each_again}
 use Rattle.answer_laws.proofs.Counting.{few_nodes}
 use Rattle.answer_laws.proofs.Forms.{AreSame, Same, begins, ends}
 use Rattle.answer_laws.proofs.Lines.{derived_form, derived_spelled, derived_written, each_spelled, heading_forms, heading_spelled, heading_written, line, lines, lines_written, node_form, node_spelled, node_written, numbered_forms, size_form, step_form, step_spelled, step_written, term_line_form, version_form}

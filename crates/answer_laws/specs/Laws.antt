@@ -5,6 +5,7 @@ use Rattle.sig_core.specs.Texts.{literal_text}
 use Rattle.sig_core.specs.Values.{is_value}
 use Rattle.sexpr_core.specs.declared.form.Sexpr.{Sexpr}
 use Rattle.sexpr_core.specs.Lexicon.{IsNumeral}
+use Rattle.sexpr_core.specs.Numerals.{number_from}
 use Rattle.sexpr_core.specs.Spelling.{Spell}
 use Rattle.sig_core.specs.Signatures.{Declarations}
 use Rattle.sig_core.specs.WellFormed.{IsWellFormed}
@@ -13,7 +14,7 @@ use Rattle.term_core.specs.declared.tree.Tree.{Tree}
 use Rattle.term_core.specs.Typings.{HasType}
 use Rattle.answer_core.specs.AnswerText.{term_text}
 use Rattle.answer_core.specs.Names.{term_misnamed}
-use Rattle.answer_core.specs.Numbers.{literal, number_from}
+use Rattle.answer_core.specs.Numbers.{literal}
 use Rattle.answer_core.specs.Readings.{TreeAnswer, nothing, reading, term_of}
 use Rattle.answer_core.specs.Shapes.{deepest, term_misfits}
 use Rattle.answer_laws.specs.Answers.{IsAnswerTold, SpellsAll, text_of_answer}

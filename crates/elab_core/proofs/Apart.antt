@@ -13,7 +13,7 @@ use Rattle.sexpr_core.specs.declared.form.Atom.{Atom}
 use Rattle.sexpr_core.specs.declared.form.Nest.{Nest}
 use Rattle.sexpr_core.specs.declared.form.Sexpr.{Sexpr, the_lemmas}
 use Rattle.sexpr_core.specs.declared.form.Sexpr as sexpr
-use Rattle.sexpr_core.specs.Access.{items_of, numeral_of, symbol_of}
+use Rattle.sexpr_core.specs.Access.{items_of, numeral_of, symbol_of, parts_of, others_of}
 use Rattle.sexpr_core.specs.Sizes.{greatest, nesting}
 use Rattle.syntax_core.specs.declared.roles.Due.{Due}
 use Rattle.syntax_core.specs.declared.roles.Due.TheVariants.{One}
@@ -26,9 +26,9 @@ use Rattle.syntax_core.specs.declared.syntax.Exp as exp
 use Rattle.syntax_core.specs.declared.syntax.Exp.TheOpen.{Exp-F}
 use Rattle.syntax_core.specs.declared.syntax.Negative.{Negative}
 use Rattle.syntax_core.specs.Roles.{after_symbol, due_in, due_in_conjunct, fits, name_at_front, operator_named}
-use Rattle.syntax_core.specs.Shapes.{HasShape, parts_of}
+use Rattle.syntax_core.specs.Shapes.{HasShape}
 use Rattle.syntax_core.specs.Shapes.HasShape.{has_shape}
-use Rattle.syntax_core.specs.Syntax.{application_of, begins, conjuncts_of, expression_of, expression_of_nest, head_among, nameless, negated_numeral, others_of, symbol_of_exp}
+use Rattle.syntax_core.specs.Syntax.{application_of, begins, conjuncts_of, expression_of, expression_of_nest, head_among, nameless, negated_numeral, symbol_of_exp}
 use Rattle.elab_core.proofs.BranchWidths.{All-flat_map}
 use Rattle.elab_core.proofs.Conjunctions.{IsApart}
 use Rattle.elab_core.proofs.FormInduction.{by_items}

@@ -8,7 +8,7 @@ use Rattle.std.proofs.lemmas.Option.{same_Some, slice_get-get_or}
 use Rattle.sig_core.specs.Names.{same_name}
 use Rattle.sexpr_core.specs.declared.form.Sexpr.{Sexpr, out-Sexpr, the_lemmas}
 use Rattle.sexpr_core.specs.declared.form.Sexpr as sexpr
-use Rattle.sexpr_core.specs.Access.{items_of, numeral_of, symbol_of}
+use Rattle.sexpr_core.specs.Access.{items_of, numeral_of, symbol_of, parts_of, item_of, others_of}
 use Rattle.sexpr_core.specs.Sizes.{nesting}
 use Rattle.syntax_core.specs.declared.roles.Due.TheVariants.{One}
 use Rattle.syntax_core.specs.declared.roles.Role.TheVariants as role
@@ -16,8 +16,8 @@ use Rattle.syntax_core.specs.declared.syntax.Body.{Body}
 use Rattle.syntax_core.specs.declared.syntax.Body as body
 use Rattle.syntax_core.specs.declared.syntax.Pair.{Pair}
 use Rattle.syntax_core.specs.Roles.{after_symbol, are_headed, due_in, due_in_conjunct, due_in_exists, fits_role, is_conjunct, is_list_of, name_at_front}
-use Rattle.syntax_core.specs.Shapes.{HasShape, parts_of}
-use Rattle.syntax_core.specs.Syntax.{begins, body_of, case_of, conjuncts_of, deepest, expression_of, item_of, leaf_of, others_of, pairs_of}
+use Rattle.syntax_core.specs.Shapes.{HasShape}
+use Rattle.syntax_core.specs.Syntax.{begins, body_of, case_of, conjuncts_of, deepest, expression_of, leaf_of, pairs_of}
 use Rattle.name_core.specs.Bodies.{branches_within}
 use Rattle.name_core.specs.Faults.{first}
 use Rattle.name_core.proofs.Branchings.{branches-Fork, branches-Leaf}

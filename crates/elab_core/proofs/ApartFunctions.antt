@@ -8,7 +8,7 @@ use Rattle.sig_core.specs.Names.{same_name}
 use Rattle.sexpr_core.specs.declared.form.Nest.{Nest}
 use Rattle.sexpr_core.specs.declared.form.Sexpr.{Sexpr, out-Sexpr}
 use Rattle.sexpr_core.specs.declared.form.Sexpr.TheOpen.{Sexpr-F}
-use Rattle.sexpr_core.specs.Access.{items_in, items_of, keyword_in, numeral_in}
+use Rattle.sexpr_core.specs.Access.{items_in, items_of, keyword_in, numeral_in, parts_of, item_of}
 use Rattle.sexpr_core.specs.Sizes.{nesting}
 use Rattle.syntax_core.specs.declared.commands.Head.{Head}
 use Rattle.syntax_core.specs.declared.commands.Head.TheVariants as head
@@ -18,8 +18,8 @@ use Rattle.syntax_core.specs.declared.roles.Role.TheVariants as role
 use Rattle.syntax_core.specs.declared.syntax.Function.{Function}
 use Rattle.syntax_core.specs.Misfits.{misfits}
 use Rattle.syntax_core.specs.Roles.{after_symbol, are_of_command, are_of_definition, are_of_match, due_in_command, head_of, is_command, name_at_front}
-use Rattle.syntax_core.specs.Shapes.{HasShape, parts_of, refusal}
-use Rattle.syntax_core.specs.Syntax.{case_of, deepest, function_of, functions_from, functions_of, item_of, pair_of}
+use Rattle.syntax_core.specs.Shapes.{HasShape, refusal}
+use Rattle.syntax_core.specs.Syntax.{case_of, deepest, function_of, functions_from, functions_of, pair_of}
 use Rattle.syntax_core.proofs.MisfitLaws.{no_misfits}
 use Rattle.name_core.specs.Faults.{first, shapes}
 use Rattle.name_core.specs.Names.{term_pairs}

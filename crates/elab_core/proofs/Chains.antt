@@ -4,9 +4,8 @@ use Rattle.std.specs.Prelude.{All}
 use Rattle.std.specs.List.{flat_map}
 use Rattle.std.proofs.lemmas.List.Elements.{All-nil, All-cons, All-head, All-tail}
 use Rattle.sexpr_core.specs.declared.form.Sexpr.{Sexpr}
-use Rattle.sexpr_core.specs.Access.{place_of}
+use Rattle.sexpr_core.specs.Access.{place_of, parts_of}
 use Rattle.syntax_core.specs.declared.fault.Fault.{Fault}
-use Rattle.syntax_core.specs.Shapes.{parts_of}
 use Rattle.name_core.specs.Faults.{found_after, found_from}
 use Rattle.elab_core.specs.Places.{places_in}
 use Rattle.elab_core.proofs.Rising.{Ordered, bounds, from_lower, ordered_joined, ordered_lower, parted}

@@ -14,7 +14,7 @@ use Rattle.sexpr_core.specs.declared.form.Atom.{Atom}
 use Rattle.sexpr_core.specs.declared.form.Nest.{Nest}
 use Rattle.sexpr_core.specs.declared.form.Sexpr.{Sexpr, out-Sexpr, the_lemmas}
 use Rattle.sexpr_core.specs.declared.form.Sexpr as sexpr
-use Rattle.sexpr_core.specs.Access.{items_of, numeral_of, symbol_of}
+use Rattle.sexpr_core.specs.Access.{items_of, numeral_of, symbol_of, parts_of, item_of, others_of}
 use Rattle.sexpr_core.specs.Sizes.{greatest, nesting}
 use Rattle.expr_core.specs.declared.expr.Op.{Op}
 use Rattle.expr_core.specs.Sorts.{takes}
@@ -34,9 +34,9 @@ use Rattle.syntax_core.specs.declared.syntax.Function.{Function}
 use Rattle.syntax_core.specs.declared.syntax.Pair.{Pair}
 use Rattle.syntax_core.specs.Misfits.{misfits}
 use Rattle.syntax_core.specs.Roles.{after_symbol, are_headed, are_of_command, are_of_definition, are_of_match, due_in, due_in_command, due_in_conjunct, due_in_exists, fits, fits_role, head_of, is_application, is_command, is_conjunct, is_list_of, name_at_front, operator_named}
-use Rattle.syntax_core.specs.Shapes.{HasShape, parts_of, refusal}
+use Rattle.syntax_core.specs.Shapes.{HasShape, refusal}
 use Rattle.syntax_core.specs.Shapes.HasShape.{has_shape}
-use Rattle.syntax_core.specs.Syntax.{application_of, begins, body_of, case_of, conjuncts_of, deepest, expression_of, expression_of_nest, function_of, functions_from, functions_of, item_of, leaf_of, nameless, negated_numeral, others_of, pairs_of, symbol_of_exp}
+use Rattle.syntax_core.specs.Syntax.{application_of, begins, body_of, case_of, conjuncts_of, deepest, expression_of, expression_of_nest, function_of, functions_from, functions_of, leaf_of, nameless, negated_numeral, pairs_of, symbol_of_exp}
 use Rattle.syntax_core.proofs.ListExps.{expression-Keyword, expression-List, expression-Numeral, expression-Symbol, expression-Text, symbol-Symbol}
 use Rattle.syntax_core.proofs.MisfitLaws.{no_misfits}
 use Rattle.syntax_core.proofs.Misfitting.{parts-Keyword, parts-List, parts-Numeral, parts-Symbol, parts-Text}

@@ -11,11 +11,11 @@ use Rattle.sig_core.specs.Names.{AreDistinct, place_of, same_name}
 use Rattle.sig_core.specs.Signatures.{Declarations}
 use Rattle.sig_core.specs.WellFormed.{IsDeclared, IsWellFormed, constructor_names}
 use Rattle.sexpr_core.specs.declared.form.Sexpr.{Sexpr}
+use Rattle.sexpr_core.specs.Access.{parts_of, item_of}
 use Rattle.syntax_core.specs.declared.commands.Head.TheVariants as head
 use Rattle.syntax_core.specs.declared.fault.Fault.{Fault}
 use Rattle.syntax_core.specs.declared.syntax.Pair.{Pair}
-use Rattle.syntax_core.specs.Shapes.{parts_of}
-use Rattle.syntax_core.specs.Syntax.{atom_of, item_of, items_at, nonterminals_of, pair_of}
+use Rattle.syntax_core.specs.Syntax.{atom_of, items_at, nonterminals_of, pair_of}
 use Rattle.grammar_core.specs.declared.production.Nonterminal.{Nonterminal}
 use Rattle.grammar_core.specs.Grammars.{IsKnown, names_of, production_count}
 use Rattle.grammar_core.specs.Refusals.{makes}

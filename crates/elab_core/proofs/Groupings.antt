@@ -4,7 +4,7 @@ use Rattle.std.specs.Prelude.{nat_eq, nat_lt, option_and_then}
 use Rattle.std.specs.Option.{option_map_or}
 use Rattle.std.proofs.lemmas.Bool.{eqb-true}
 use Rattle.sexpr_core.specs.declared.form.Sexpr.{Sexpr}
-use Rattle.sexpr_core.specs.Access.{items_of, symbol_of}
+use Rattle.sexpr_core.specs.Access.{items_of, symbol_of, parts_of}
 use Rattle.syntax_core.specs.declared.commands.Head.{Head}
 use Rattle.syntax_core.specs.declared.commands.Head.TheVariants as head
 use Rattle.syntax_core.specs.declared.fault.Fault.{Fault}
@@ -14,7 +14,7 @@ use Rattle.syntax_core.specs.declared.roles.Role.TheVariants as role
 use Rattle.syntax_core.specs.Commands.{head_named}
 use Rattle.syntax_core.specs.Misfits.{misfits}
 use Rattle.syntax_core.specs.Roles.{are_as_long, are_of_command, due_in, due_in_command, fits, head_of, is_command, is_list_of}
-use Rattle.syntax_core.specs.Shapes.{HasShape, parts_of, refusal}
+use Rattle.syntax_core.specs.Shapes.{HasShape, refusal}
 use Rattle.syntax_core.specs.Shapes.HasShape.{has_shape}
 use Rattle.syntax_core.specs.Syntax.{items_at}
 use Rattle.syntax_core.proofs.MisfitLaws.{no_misfits}

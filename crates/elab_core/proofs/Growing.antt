@@ -11,10 +11,9 @@ use Rattle.sig_core.specs.Signatures.{Declarations, owner_in}
 use Rattle.sig_core.specs.WellFormed.{IsWellFormed, constructor_names}
 use Rattle.sexpr_core.specs.declared.form.Atom.{Atom}
 use Rattle.sexpr_core.specs.declared.form.Sexpr.{Sexpr}
-use Rattle.sexpr_core.specs.Access.{place_of, symbol_of}
+use Rattle.sexpr_core.specs.Access.{place_of, symbol_of, parts_of, item_of, others_of}
 use Rattle.syntax_core.specs.declared.fault.Fault.{Fault}
-use Rattle.syntax_core.specs.Shapes.{parts_of}
-use Rattle.syntax_core.specs.Syntax.{atom_of, item_of, items_at, name_of, others_of, pattern_of, type_names}
+use Rattle.syntax_core.specs.Syntax.{atom_of, items_at, name_of, pattern_of, type_names}
 use Rattle.rule_core.specs.declared.flow.FlowFault.{FlowFault}
 use Rattle.rule_core.specs.declared.rule.Atom as rule
 use Rattle.rule_core.specs.declared.rule.Atom.TheVariants as atom

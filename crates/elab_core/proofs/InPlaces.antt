@@ -10,7 +10,7 @@ use Rattle.sexpr_core.specs.declared.form.Atom.{Atom}
 use Rattle.sexpr_core.specs.declared.form.Nest.{Nest}
 use Rattle.sexpr_core.specs.declared.form.Sexpr.{Sexpr, out-Sexpr}
 use Rattle.sexpr_core.specs.declared.form.Sexpr.TheOpen.{Sexpr-F}
-use Rattle.sexpr_core.specs.Access.{items_in, items_of, numeral_in, numeral_of, place_of, symbol_in, symbol_of}
+use Rattle.sexpr_core.specs.Access.{items_in, items_of, numeral_in, numeral_of, place_of, symbol_in, symbol_of, parts_of, item_of, others_of}
 use Rattle.syntax_core.specs.declared.roles.Due.{Due}
 use Rattle.syntax_core.specs.declared.roles.Due.TheVariants.{One, Many}
 use Rattle.syntax_core.specs.declared.roles.Role.TheVariants as role
@@ -21,8 +21,8 @@ use Rattle.syntax_core.specs.declared.syntax.Exp.{Exp}
 use Rattle.syntax_core.specs.declared.syntax.Pair.{Pair}
 use Rattle.syntax_core.specs.declared.syntax.Pattern.{Pattern}
 use Rattle.syntax_core.specs.Roles.{after_symbol, are_headed, due_in, due_in_conjunct, due_in_exists, is_conjunct, is_filled, is_list_of, name_at_front}
-use Rattle.syntax_core.specs.Shapes.{HasShape, parts_of}
-use Rattle.syntax_core.specs.Syntax.{atom_of, begins, body_of, case_of, conjuncts_of, deepest, expression_of, item_of, leaf_of, others_of, pair_of, pairs_of, pattern_of}
+use Rattle.syntax_core.specs.Shapes.{HasShape}
+use Rattle.syntax_core.specs.Syntax.{atom_of, begins, body_of, case_of, conjuncts_of, deepest, expression_of, leaf_of, pair_of, pairs_of, pattern_of}
 use Rattle.name_core.specs.Bodies.{Node, bound, bound_after, leaf, nodes_of, nodes_within}
 use Rattle.name_core.proofs.LimitFacts.{no_items}
 use Rattle.name_core.proofs.WalkLaws.{nodes-Fork, nodes-Leaf}

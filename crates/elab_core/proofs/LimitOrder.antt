@@ -5,7 +5,7 @@ use Rattle.std.specs.List.{flat_map}
 use Rattle.std.specs.Option.{option_map_or}
 use Rattle.sexpr_core.specs.declared.form.Atom.{Atom}
 use Rattle.sexpr_core.specs.declared.form.Sexpr.{Sexpr}
-use Rattle.sexpr_core.specs.Access.{items_of, place_of, symbol_of}
+use Rattle.sexpr_core.specs.Access.{items_of, place_of, symbol_of, parts_of, item_of, others_of}
 use Rattle.syntax_core.specs.declared.commands.Head.{Head}
 use Rattle.syntax_core.specs.declared.commands.Head.TheVariants as head
 use Rattle.syntax_core.specs.declared.fault.Fault.{Fault}
@@ -16,8 +16,8 @@ use Rattle.syntax_core.specs.declared.syntax.Application.{Application}
 use Rattle.syntax_core.specs.declared.syntax.Function.{Function}
 use Rattle.syntax_core.specs.declared.syntax.Pair.{Pair}
 use Rattle.syntax_core.specs.Roles.{are_of_command, due_in_command, head_of, is_command, is_filled}
-use Rattle.syntax_core.specs.Shapes.{HasShape, parts_of}
-use Rattle.syntax_core.specs.Syntax.{atom_of, begins, call_of, calls_of, deepest, functions_from, functions_of, item_of, items_at, nonterminals_of, others_of, pair_of}
+use Rattle.syntax_core.specs.Shapes.{HasShape}
+use Rattle.syntax_core.specs.Syntax.{atom_of, begins, call_of, calls_of, deepest, functions_from, functions_of, items_at, nonterminals_of, pair_of}
 use Rattle.name_core.specs.Bodies.{Node, Site, bound, leaf, leaf_count, nodes_of, rule_count, sites_of}
 use Rattle.name_core.specs.Faults.{first, found, found_from, past, shapes}
 use Rattle.name_core.specs.Limits.{call_limits, case_limits, constructor_limits, declaration_limits, functions_limits, limits, long_name, node_limits, pair_limits, pairs_limits, production_limits, type_limits, types_limits, wanted_limits}

@@ -8,7 +8,7 @@ use Rattle.sig_core.specs.Signatures.{Declarations}
 use Rattle.sig_core.specs.WellFormed.{constructor_names, relation_names}
 use Rattle.sexpr_core.specs.declared.form.Atom.{Atom}
 use Rattle.sexpr_core.specs.declared.form.Sexpr.{Sexpr}
-use Rattle.sexpr_core.specs.Access.{items_of, place_of, symbol_of}
+use Rattle.sexpr_core.specs.Access.{items_of, place_of, symbol_of, parts_of, item_of, others_of}
 use Rattle.syntax_core.specs.declared.commands.Head.{Head}
 use Rattle.syntax_core.specs.declared.commands.Head.TheVariants as head
 use Rattle.syntax_core.specs.declared.fault.Fault.{Fault}
@@ -20,8 +20,8 @@ use Rattle.syntax_core.specs.declared.syntax.Pair.{Pair}
 use Rattle.syntax_core.specs.declared.syntax.Pattern.{Pattern}
 use Rattle.syntax_core.specs.Literals.{literal_named}
 use Rattle.syntax_core.specs.Roles.{are_of_command, due_in_command, head_of}
-use Rattle.syntax_core.specs.Shapes.{HasShape, parts_of, refusal}
-use Rattle.syntax_core.specs.Syntax.{atom_of, begins, call_of, calls_of, deepest, expression_of, item_of, items_at, nonterminals_of, others_of, pair_of, pattern_of, symbol_of_exp, type_names}
+use Rattle.syntax_core.specs.Shapes.{HasShape, refusal}
+use Rattle.syntax_core.specs.Syntax.{atom_of, begins, call_of, calls_of, deepest, expression_of, items_at, nonterminals_of, pair_of, pattern_of, symbol_of_exp, type_names}
 use Rattle.syntax_core.proofs.ListExps.{expression-Keyword, expression-Numeral, expression-Symbol, expression-Text, symbol-List, symbol-Numeral, symbol-Symbol}
 use Rattle.name_core.specs.Faults.{bad_if, first, found, shapes}
 use Rattle.name_core.specs.Names.{argument_names, call_names, constructors_in, example_names, group_names, groups_of, has, names, names_in, nonterminal_names, production_names, sort_names, taken_name, texts, types_names, unhad_name, unknown_name, wanted_names}

@@ -3,7 +3,7 @@ use Rattle.std.proofs.Common.{◌≡◌, ℕ, ◌+◌, ◌<◌, ◌≤◌, Bool,
 use Rattle.std.specs.Prelude.{◌&&◌, codes, unwrap_or, if◌then◌else◌}
 use Rattle.sexpr_core.specs.declared.form.Atom.{Atom}
 use Rattle.sexpr_core.specs.declared.form.Sexpr.{Sexpr}
-use Rattle.sexpr_core.specs.Access.{items_of, place_of}
+use Rattle.sexpr_core.specs.Access.{items_of, place_of, parts_of, item_of}
 use Rattle.syntax_core.specs.declared.roles.Due.TheVariants.{One, Many}
 use Rattle.syntax_core.specs.declared.roles.Role.TheVariants as role
 use Rattle.syntax_core.specs.declared.syntax.Case.{Case}
@@ -11,8 +11,8 @@ use Rattle.syntax_core.specs.declared.syntax.Declaration.{Declaration}
 use Rattle.syntax_core.specs.declared.syntax.Definition.{Definition}
 use Rattle.syntax_core.specs.declared.syntax.Function.{Function}
 use Rattle.syntax_core.specs.Roles.{are_of_definition, are_of_match, have_attributes, may_be}
-use Rattle.syntax_core.specs.Shapes.{HasShape, parts_of}
-use Rattle.syntax_core.specs.Syntax.{case_of, declaration_of, definition_of, functions_from, has_outputs_first, item_of, pairs_of, symbols_of}
+use Rattle.syntax_core.specs.Shapes.{HasShape}
+use Rattle.syntax_core.specs.Syntax.{case_of, declaration_of, definition_of, functions_from, has_outputs_first, pairs_of, symbols_of}
 use Rattle.name_core.specs.Bodies.{Site, sites_of}
 use Rattle.name_core.specs.Names.{attributes_of}
 use Rattle.elab_core.specs.Places.{places_in}

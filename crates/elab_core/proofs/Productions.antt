@@ -14,8 +14,9 @@ use Rattle.sig_core.specs.Signatures.{Declarations}
 use Rattle.sig_core.specs.WellFormed.{IsDeclared, constructor_names}
 use Rattle.sexpr_core.specs.declared.form.Sexpr.{Sexpr}
 use Rattle.sexpr_core.specs.Access as access
+use Rattle.sexpr_core.specs.Access.{others_of}
 use Rattle.syntax_core.specs.declared.syntax.Pair.{Pair}
-use Rattle.syntax_core.specs.Syntax.{atom_of, items_at, name_of, others_of}
+use Rattle.syntax_core.specs.Syntax.{atom_of, items_at, name_of}
 use Rattle.rule_core.specs.Flow as flow
 use Rattle.grammar_core.specs.declared.ids.NtId.{NtId}
 use Rattle.grammar_core.specs.declared.production.Nonterminal.{Nonterminal}

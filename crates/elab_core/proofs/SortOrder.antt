@@ -16,7 +16,7 @@ use Rattle.sexpr_core.specs.declared.form.Atom.{Atom}
 use Rattle.sexpr_core.specs.declared.form.Nest.{Nest}
 use Rattle.sexpr_core.specs.declared.form.Sexpr.{Sexpr}
 use Rattle.sexpr_core.specs.declared.form.Sexpr as sexpr
-use Rattle.sexpr_core.specs.Access.{place_of}
+use Rattle.sexpr_core.specs.Access.{place_of, parts_of, item_of, others_of}
 use Rattle.rule_core.specs.Flow.{same_type}
 use Rattle.syntax_core.specs.declared.commands.Head.{Head}
 use Rattle.syntax_core.specs.declared.commands.Head.TheVariants as head
@@ -33,8 +33,8 @@ use Rattle.syntax_core.specs.declared.syntax.Negative.{Negative}
 use Rattle.syntax_core.specs.declared.syntax.Pair.{Pair}
 use Rattle.syntax_core.specs.Literals.{digits_place, is_out_of_range, literal_of, place_of_exp}
 use Rattle.syntax_core.specs.Roles.{head_of}
-use Rattle.syntax_core.specs.Shapes.{HasShape, parts_of}
-use Rattle.syntax_core.specs.Syntax.{application_of, atom_of, calls_of, deepest, expression_of, functions_of, item_of, items_at, name_of, negated_numeral, nonterminals_of, others_of}
+use Rattle.syntax_core.specs.Shapes.{HasShape}
+use Rattle.syntax_core.specs.Syntax.{application_of, atom_of, calls_of, deepest, expression_of, functions_of, items_at, name_of, negated_numeral, nonterminals_of}
 use Rattle.syntax_core.proofs.ListExps.{expression-Keyword, expression-List, expression-Numeral, expression-Symbol, expression-Text}
 use Rattle.syntax_core.proofs.Misfitting.{parts-List}
 use Rattle.name_core.specs.Bodies.{Branch, Node, bound, bound_after, branches_of, branches_within, leaf, nodes_of, nodes_within}

@@ -26,13 +26,15 @@ use Rattle.syntax_core.specs.declared.literal.Literal.TheVariants.{Number, Truth
 use Rattle.syntax_core.specs.declared.syntax.Application.{Application}
 use Rattle.syntax_core.specs.declared.syntax.Exp.{Exp, out-Exp}
 use Rattle.syntax_core.specs.declared.syntax.Exp.TheOpen.{Exp-F}
-use Rattle.syntax_core.specs.Literals.{is_negative, literal_in, literal_named, literal_of, minus, negative_in, number_of, place_of_exp, sort_of_literal}
+use Rattle.syntax_core.specs.Literals.{literal_in, literal_named, literal_of, negative_in, number_of, place_of_exp, sort_of_literal}
 use Rattle.problem_core.specs.declared.parts.Constraint.{Constraint}
 use Rattle.problem_core.specs.Soundness.{IsSoundConstraint}
 use Rattle.name_core.specs.Faults.{bad_if, first, found_from}
 use Rattle.sexpr_core.specs.declared.form.Sexpr.{Sexpr}
+use Rattle.sexpr_core.specs.Access.{item_of}
+use Rattle.sexpr_core.specs.Numerals.{is_negative, minus}
 use Rattle.syntax_core.specs.declared.commands.Head.TheVariants as head
-use Rattle.syntax_core.specs.Syntax.{calls_of, deepest, item_of}
+use Rattle.syntax_core.specs.Syntax.{calls_of, deepest}
 use Rattle.elab_core.specs.Elaborating.{IsTaken}
 use Rattle.elab_core.specs.Judging.{faults_in}
 use Rattle.name_core.specs.Limits.{call_limits}

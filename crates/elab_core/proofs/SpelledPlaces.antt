@@ -7,7 +7,7 @@ use Rattle.sexpr_core.specs.declared.form.Atom.{Atom}
 use Rattle.sexpr_core.specs.declared.form.Nest.{Nest}
 use Rattle.sexpr_core.specs.declared.form.Sexpr.{Sexpr}
 use Rattle.sexpr_core.specs.declared.form.Sexpr as sexpr
-use Rattle.sexpr_core.specs.Access.{place_of}
+use Rattle.sexpr_core.specs.Access.{place_of, parts_of}
 use Rattle.sexpr_core.specs.Spelling.{IsToken, Spelled, Spell, nothing, blank, comment, token, list, numeral, simple_symbol, quoted_symbol, string, keyword}
 use Rattle.sexpr_core.proofs.Tokens.{begins}
 use Rattle.syntax_core.specs.declared.roles.Due.{Due}
@@ -15,7 +15,6 @@ use Rattle.syntax_core.specs.declared.roles.Due.TheVariants.{One}
 use Rattle.syntax_core.specs.declared.roles.Role.TheVariants as role
 use Rattle.syntax_core.specs.Misfits.{misfits, misfits_from}
 use Rattle.syntax_core.specs.Roles.{due_in, fits}
-use Rattle.syntax_core.specs.Shapes.{parts_of}
 use Rattle.syntax_core.proofs.Misfitting.{measure, misfits-is, parts-Keyword, parts-List, parts-Numeral, parts-Symbol, parts-Text}
 use Rattle.name_core.specs.Faults.{shapes}
 use Rattle.elab_core.specs.Places.{AreInOrder, Rise, places_in}

@@ -17,11 +17,10 @@ use Rattle.sexpr_core.specs.declared.form.Atom.{Atom}
 use Rattle.sexpr_core.specs.declared.form.Nest.{Nest}
 use Rattle.sexpr_core.specs.declared.form.Sexpr.{Sexpr, out-Sexpr}
 use Rattle.sexpr_core.specs.declared.form.Sexpr.TheOpen.{Sexpr-F}
-use Rattle.sexpr_core.specs.Access.{items_in, place_of as place_of_form, symbol_in, symbol_of}
+use Rattle.sexpr_core.specs.Access.{items_in, place_of as place_of_form, symbol_in, symbol_of, parts_of, others_of}
 use Rattle.syntax_core.specs.declared.fault.Fault.{Fault}
 use Rattle.syntax_core.specs.declared.syntax.Pattern.{Pattern}
-use Rattle.syntax_core.specs.Shapes.{parts_of}
-use Rattle.syntax_core.specs.Syntax.{atom_of, items_at, name_of, others_of, pair_of, pattern_of, type_names}
+use Rattle.syntax_core.specs.Syntax.{atom_of, items_at, name_of, pair_of, pattern_of, type_names}
 use Rattle.name_core.specs.Faults.{first, found_after, found_from, past}
 use Rattle.elab_core.specs.Fitting.{ConstructorFits, ConstructorsFit, TermsFit}
 use Rattle.name_core.specs.Limits.{constructor_limits, long_name, type_limits, types_limits}

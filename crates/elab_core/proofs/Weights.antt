@@ -8,6 +8,7 @@ use Rattle.sexpr_core.specs.declared.form.Atom.{Atom}
 use Rattle.sexpr_core.specs.declared.form.Nest.{Nest}
 use Rattle.sexpr_core.specs.declared.form.Sexpr.{Sexpr, the_lemmas}
 use Rattle.sexpr_core.specs.declared.form.Sexpr as sexpr
+use Rattle.sexpr_core.specs.Access.{parts_of, item_of, others_of}
 use Rattle.sexpr_core.specs.Sizes.{node_count, nodes}
 use Rattle.syntax_core.specs.declared.syntax.Body.{Body}
 use Rattle.syntax_core.specs.declared.syntax.Body as body
@@ -16,8 +17,7 @@ use Rattle.syntax_core.specs.declared.syntax.Exp.{Exp}
 use Rattle.syntax_core.specs.declared.syntax.Exp as exp
 use Rattle.syntax_core.specs.declared.syntax.Function.{Function}
 use Rattle.syntax_core.specs.declared.syntax.Pair.{Pair}
-use Rattle.syntax_core.specs.Shapes.{parts_of}
-use Rattle.syntax_core.specs.Syntax.{application_of, begins, body_of, case_of, conjuncts_of, deepest, expression_of, expression_of_nest, function_of, functions_from, functions_of, item_of, leaf_of, negated_numeral, others_of, pairs_of}
+use Rattle.syntax_core.specs.Syntax.{application_of, begins, body_of, case_of, conjuncts_of, deepest, expression_of, expression_of_nest, function_of, functions_from, functions_of, leaf_of, negated_numeral, pairs_of}
 use Rattle.name_core.specs.Bodies.{Branch, branches_of, branches_within}
 use Rattle.elab_core.proofs.BranchWidths.{All-flat_map}
 use Rattle.name_core.proofs.Branchings.{branches-Leaf, branches-Fork}

@@ -7,8 +7,8 @@ use Rattle.sig_core.specs.Refusals.{constructor_refusal, relation_refusal, type_
 use Rattle.sig_core.specs.Signatures.{Declarations}
 use Rattle.sig_core.specs.WellFormed.{IsDeclared, IsRelation}
 use Rattle.sexpr_core.specs.declared.form.Sexpr.{Sexpr}
-use Rattle.syntax_core.specs.Syntax.{atom_of, item_of, items_at, nonterminals_of, type_names}
-use Rattle.syntax_core.specs.Shapes.{parts_of}
+use Rattle.sexpr_core.specs.Access.{item_of, parts_of}
+use Rattle.syntax_core.specs.Syntax.{atom_of, items_at, nonterminals_of, type_names}
 use Rattle.grammar_core.specs.declared.ids.NtId.{NtId}
 use Rattle.grammar_core.specs.declared.production.Nonterminal.{Nonterminal}
 use Rattle.grammar_core.specs.declared.production.Production.{Production}

@@ -3,10 +3,10 @@ use Rattle.std.specs.Prelude.{◌≡◌, ◌++◌, Some, None, length, All}
 use Rattle.rule_core.specs.declared.flow.FlowFault.{FlowFault}
 use Rattle.rule_core.specs.Flow.{flow_fault}
 use Rattle.sexpr_core.specs.declared.form.Sexpr.{Sexpr}
+use Rattle.sexpr_core.specs.Access.{parts_of}
 use Rattle.sig_core.specs.Signatures.{Declarations}
 use Rattle.syntax_core.specs.declared.commands.Head.TheVariants.{DefineFunsRec}
 use Rattle.syntax_core.specs.Roles.{head_of}
-use Rattle.syntax_core.specs.Shapes.{parts_of}
 use Rattle.syntax_core.specs.Syntax.{functions_of}
 use Rattle.sort_core.specs.declared.branch.OpenBranch.{OpenBranch}
 use Rattle.sort_core.specs.declared.branch.OpenCase.{OpenCase}

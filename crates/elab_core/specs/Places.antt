@@ -4,10 +4,10 @@ use Rattle.std.specs.List.{flat_map}
 use Rattle.sexpr_core.specs.declared.form.Sexpr.{Sexpr}
 use Rattle.sexpr_core.specs.declared.form.Sexpr.TheOpen.{Sexpr-F, Nest-F}
 use Rattle.sexpr_core.specs.declared.form.Sexpr.TheFolds.{fold-Sexpr}
+use Rattle.sexpr_core.specs.Access.{parts_of}
 use Rattle.syntax_core.specs.declared.commands.Head.{Head}
 use Rattle.syntax_core.specs.declared.fault.Fault.{Fault}
 use Rattle.syntax_core.specs.Roles.{head_of}
-use Rattle.syntax_core.specs.Shapes.{parts_of}
 use Rattle.name_core.specs.Faults.{first, shapes}
 
 abbrev pub places_step : Sexpr-F (List ℕ) (List ℕ) → List ℕ

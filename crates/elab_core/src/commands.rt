@@ -10,10 +10,10 @@ ghost use Rattle.syntax_core.specs.declared.commands.Head.TheVariants.{SetInfo, 
 use crate::stated::StatedParts;
 use items::at;
 use problem_core::Info;
-use sexpr_core::{Sexpr, print};
+use sexpr_core::{Sexpr, parts_of, print};
 use sig_core::Bytes;
 use std::alloc::{AllocError, Global};
-use syntax_core::{Fault, Head, first_item, head_named, parts_of, refusal};
+use syntax_core::{Fault, Head, first_item, head_named, refusal};
 
 impl StatedParts {
     /// The command that the form begins: reason 10 for a form that is no list with a symbol first, 11 at an unknown word,

@@ -16,11 +16,11 @@ use crate::examples::constraint_of;
 use crate::stated::{StatedParts, WantedFunction};
 use name_core::{calls_limit, calls_name};
 use problem_core::Constraints;
-use sexpr_core::Sexpr;
+use sexpr_core::{Sexpr, item_of};
 use sig_core::Signature;
 use sort_core::{ElabError, calls_fault};
 use std::alloc::{AllocError, Global};
-use syntax_core::{Application, Fault, calls_of, item_of, refusal};
+use syntax_core::{Application, Fault, calls_of, refusal};
 
 /// The fault of calls: of the first past the limit, else the leftmost wrong name, else the leftmost wrong sort. So many
 /// constraints come before.

@@ -1,5 +1,6 @@
 //! The grammar of a `synth-fun`.
 ghost use Rattle.std.specs.Prelude.{◌≡◌, ◌≤◌, ◌+◌, ◌++◌, None, map, length, IfOk, OnOk};
+ghost use Rattle.sexpr_core.specs.Access.{item_of};
 ghost use Rattle.grammar_core.specs.declared.grammar.GrammarError.TheVariants.{Memory};
 ghost use Rattle.grammar_core.specs.Refusals.{nonterminal_refusal, with_nonterminal, with_production};
 ghost use Rattle.sort_core.specs.Branches.{constructor_named};
@@ -9,17 +10,17 @@ ghost use Rattle.name_core.specs.Names.{groups_of, names_in};
 ghost use Rattle.sort_core.specs.Opens.{number_named};
 ghost use Rattle.sort_core.specs.Relations.{type_named};
 ghost use Rattle.syntax_core.specs.declared.commands.Head.TheVariants as head;
-ghost use Rattle.syntax_core.specs.Syntax.{atom_of, item_of, items_at, nonterminals_of, pair_of};
+ghost use Rattle.syntax_core.specs.Syntax.{atom_of, items_at, nonterminals_of, pair_of};
 
 use crate::stated::{StatedParts, WantedFunction};
 use grammar_core::{Grammar, GrammarError, NtId, NtIds};
 use name_core::place_of;
 use rule_core::Names;
-use sexpr_core::Sexpr;
+use sexpr_core::{Sexpr, item_of, others_of, parts_of};
 use sig_core::{Bytes, ConId, Signature, TypeId};
 use sort_core::type_named;
 use std::alloc::{AllocError, Global};
-use syntax_core::{atom_of, item_of, items_at, name_of, others_of, pair_of, parts_of};
+use syntax_core::{atom_of, items_at, name_of, pair_of};
 
 /// Want of memory, which is the only error left where nothing is refused.
 fn want_of_memory(_error: GrammarError) -> AllocError

@@ -17,11 +17,11 @@ ghost use Rattle.syntax_core.specs.Syntax.{atom_of, items_at, pair_of, pattern_o
 
 use crate::stated::StatedParts;
 use items::Items;
-use sexpr_core::Sexpr;
+use sexpr_core::{Sexpr, others_of, parts_of};
 use sig_core::{Constructor, SigError, Signature, TypeId, TypeIds};
 use sort_core::type_named;
 use std::alloc::{AllocError, Global};
-use syntax_core::{atom_of, items_at, name_of, others_of, pair_of, parts_of};
+use syntax_core::{atom_of, items_at, name_of, pair_of};
 
 type Constructors = Items<Constructor>;
 

@@ -7,7 +7,7 @@ use Rattle.sexpr_core.specs.declared.form.Atom.{Atom}
 use Rattle.sexpr_core.specs.declared.form.Nest.{Nest}
 use Rattle.sexpr_core.specs.declared.form.Sexpr.{Sexpr, out-Sexpr}
 use Rattle.sexpr_core.specs.declared.form.Sexpr.TheOpen.{Sexpr-F}
-use Rattle.sexpr_core.specs.Access.{items_in, place_of, symbol_in, symbol_of}
+use Rattle.sexpr_core.specs.Access.{items_in, place_of, symbol_in, symbol_of, parts_of, item_of, others_of}
 use Rattle.sig_core.specs.Lists.{greatest}
 use Rattle.problem_core.specs.Soundness.{IsShort}
 use Rattle.syntax_core.specs.declared.syntax.Application.{Application}
@@ -19,8 +19,7 @@ use Rattle.syntax_core.specs.declared.syntax.Function.{Function}
 use Rattle.syntax_core.specs.declared.syntax.Leaf.{Leaf}
 use Rattle.syntax_core.specs.declared.syntax.Pair.{Pair}
 use Rattle.syntax_core.specs.declared.syntax.Scope.{Scope}
-use Rattle.syntax_core.specs.Shapes.{parts_of}
-use Rattle.syntax_core.specs.Syntax.{atom_of, item_of, items_at, name_of, nonterminals_of, others_of, type_names}
+use Rattle.syntax_core.specs.Syntax.{atom_of, items_at, name_of, nonterminals_of, type_names}
 use Rattle.name_core.specs.Bodies.{Branch, Site, branches_of, branches_within, rule_count, sites_of, width}
 use Rattle.name_core.specs.Faults.{first, found_from, past}
 use Rattle.name_core.specs.Limits.{call_limits, constructor_limits, declaration_limits, functions_limits, long_name, pair_limits, pairs_limits, production_limits, type_limits, types_limits, wanted_limits}

@@ -10,7 +10,7 @@ use Rattle.sig_core.specs.WellFormed.{constructor_names, relation_names}
 use Rattle.sig_core.proofs.NameLemmas.{AreDistinct-push}
 use Rattle.sexpr_core.specs.declared.form.Atom.{Atom}
 use Rattle.sexpr_core.specs.declared.form.Sexpr.{Sexpr, out-Sexpr}
-use Rattle.sexpr_core.specs.Access.{place_of, symbol_of}
+use Rattle.sexpr_core.specs.Access.{place_of, symbol_of, item_of, others_of}
 use Rattle.syntax_core.specs.declared.fault.Fault.{Fault}
 use Rattle.syntax_core.specs.declared.syntax.Application.{Application}
 use Rattle.syntax_core.specs.declared.syntax.Body.{Body}
@@ -23,7 +23,7 @@ use Rattle.syntax_core.specs.declared.syntax.Pair.{Pair}
 use Rattle.syntax_core.specs.declared.syntax.Pattern.{Pattern}
 use Rattle.syntax_core.specs.declared.syntax.Scope.{Scope}
 use Rattle.syntax_core.specs.Shapes.{refusal}
-use Rattle.syntax_core.specs.Syntax.{atom_of, item_of, items_at, name_of, nonterminals_of, others_of, type_names}
+use Rattle.syntax_core.specs.Syntax.{atom_of, items_at, name_of, nonterminals_of, type_names}
 use Rattle.name_core.specs.Bodies.{Branch, bound, bound_after, branches_of, branches_within, leaf, nodes_of, nodes_within}
 use Rattle.name_core.specs.Faults.{bad_if, first, found, found_after}
 use Rattle.name_core.specs.Names.{are_listed, argument_names, attribute_names, attributes_of, call_names, case_names, constructors_in, declaration_names, definition_names, expression_names, function_names, functions_names, group_names, groups_of, has, names_in, node_names, nonterminal_names, parameter_names, plain_pairs, production_names, sort_names, taken_name, term_pairs, texts, types_names, unfit_name, unhad_name, unknown_name, wanted_names}

@@ -3,7 +3,7 @@ use Rattle.std.specs.Prelude.{ℕ, ◌+◌, nat_le, if◌then◌else◌, is_some
 use Rattle.std.specs.List.{flat_map}
 use Rattle.sexpr_core.specs.declared.form.Atom.{Atom}
 use Rattle.sexpr_core.specs.declared.form.Sexpr.{Sexpr}
-use Rattle.sexpr_core.specs.Access.{place_of, symbol_of}
+use Rattle.sexpr_core.specs.Access.{place_of, symbol_of, item_of, others_of, parts_of}
 use Rattle.syntax_core.specs.declared.commands.Head.{Head}
 use Rattle.syntax_core.specs.declared.commands.Head.TheVariants.{SetInfo, DeclareTermTypes, DefineFunsRec, SynthFun, Constraint, CheckSynth}
 use Rattle.syntax_core.specs.declared.fault.Fault.{Fault}
@@ -11,8 +11,7 @@ use Rattle.syntax_core.specs.declared.syntax.Application.{Application}
 use Rattle.syntax_core.specs.declared.syntax.Declaration.{Declaration}
 use Rattle.syntax_core.specs.declared.syntax.Function.{Function}
 use Rattle.syntax_core.specs.declared.syntax.Pair.{Pair}
-use Rattle.syntax_core.specs.Syntax.{atom_of, calls_of, deepest, functions_of, item_of, items_at, name_of, nonterminals_of, others_of, type_names}
-use Rattle.syntax_core.specs.Shapes.{parts_of}
+use Rattle.syntax_core.specs.Syntax.{atom_of, calls_of, deepest, functions_of, items_at, name_of, nonterminals_of, type_names}
 use Rattle.name_core.specs.Bodies.{Node, Site, bound, leaf, leaf_count, nodes_of, rule_count, sites_of}
 use Rattle.name_core.specs.Faults.{found, found_from, past}
 use Rattle.name_core.specs.States.{State}

@@ -8,7 +8,7 @@ use Rattle.sig_core.specs.Signatures.{Declarations}
 use Rattle.sig_core.specs.WellFormed.{constructor_names, relation_names}
 use Rattle.sexpr_core.specs.declared.form.Atom.{Atom}
 use Rattle.sexpr_core.specs.declared.form.Sexpr.{Sexpr}
-use Rattle.sexpr_core.specs.Access.{symbol_of}
+use Rattle.sexpr_core.specs.Access.{symbol_of, parts_of, item_of, others_of}
 use Rattle.sexpr_core.specs.Access as access
 use Rattle.syntax_core.specs.declared.commands.Head.{Head}
 use Rattle.syntax_core.specs.declared.commands.Head.TheVariants.{SetInfo, DeclareTermTypes, DefineFunsRec, SynthFun, Constraint, CheckSynth}
@@ -24,8 +24,8 @@ use Rattle.syntax_core.specs.declared.syntax.Pair.{Pair}
 use Rattle.syntax_core.specs.declared.syntax.Pattern.{Pattern}
 use Rattle.syntax_core.specs.Literals.{literal_named}
 use Rattle.syntax_core.specs.Roles.{operator_named}
-use Rattle.syntax_core.specs.Shapes.{parts_of, refusal}
-use Rattle.syntax_core.specs.Syntax.{atom_of, calls_of, deepest, functions_of, item_of, items_at, nonterminals_of, others_of, pattern_of, symbol_of_exp, type_names}
+use Rattle.syntax_core.specs.Shapes.{refusal}
+use Rattle.syntax_core.specs.Syntax.{atom_of, calls_of, deepest, functions_of, items_at, nonterminals_of, pattern_of, symbol_of_exp, type_names}
 use Rattle.name_core.specs.Bodies.{Node, bound, leaf, nodes_of}
 use Rattle.name_core.specs.Faults.{bad_if, found}
 use Rattle.name_core.specs.States.{State, Wanted}

@@ -1,8 +1,9 @@
 -- What commands are read as, where they are more than flat lists.
 use Rattle.sexpr_core.specs.declared.form.Sexpr.{Sexpr}
+use Rattle.sexpr_core.specs.Access.{item_of}
 use Rattle.syntax_core.specs.declared.commands.Head.{Head}
 use Rattle.syntax_core.specs.declared.commands.Head.TheVariants.{SetInfo, DeclareTermTypes, DefineFunsRec, SynthFun, Constraint, CheckSynth}
-use Rattle.syntax_core.specs.Syntax.{calls_of, deepest, functions_of, item_of}
+use Rattle.syntax_core.specs.Syntax.{calls_of, deepest, functions_of}
 use Rattle.name_core.specs.declared.command_faults.Reading.{Reading}
 use Rattle.name_core.specs.declared.command_faults.Reading.TheVariants.{Flat, Functions, Calls}
 

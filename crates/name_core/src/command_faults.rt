@@ -13,10 +13,10 @@ use crate::function_names::functions_name;
 use crate::grammar_names::wanted_name;
 use crate::limits::{types_limit, wanted_limit};
 use crate::type_names::types_name;
-use sexpr_core::Sexpr;
+use sexpr_core::{Sexpr, item_of};
 use sig_core::Signature;
 use std::alloc::{AllocError, Global};
-use syntax_core::{Applications, Fault, Functions, Head, calls_of, functions_of, item_of};
+use syntax_core::{Applications, Fault, Functions, Head, calls_of, functions_of};
 
 /// What a command is read as, where it is more than flat lists.
 #[derive(Debug, Drop)]

@@ -2,15 +2,16 @@
 ghost use Rattle.std.specs.Prelude.{◌≡◌, ◌≤◌, ◌++◌, [], ◌∷◌, map, length, IfOk};
 ghost use Rattle.std.specs.List.{flat_map, zip};
 ghost use Rattle.sig_core.specs.WellFormed.{constructor_names};
-ghost use Rattle.syntax_core.specs.Syntax.{atom_of, item_of, others_of};
+ghost use Rattle.sexpr_core.specs.Access.{item_of, others_of};
+ghost use Rattle.syntax_core.specs.Syntax.{atom_of};
 ghost use Rattle.name_core.specs.Faults.{first, found};
 ghost use Rattle.name_core.specs.Names.{group_names, names_in, nonterminal_names, production_names, taken_name, unhad_name, unknown_name, wanted_names};
 
 use crate::function_names::has_pair;
-use sexpr_core::{Atom, Sexpr};
+use sexpr_core::{Atom, Sexpr, item_of, others_of};
 use sig_core::Signature;
 use std::alloc::{AllocError, Global};
-use syntax_core::{Fault, Pair, item_of, items_at, nonterminals_of, others_of, refusal};
+use syntax_core::{Fault, Pair, items_at, nonterminals_of, refusal};
 
 /// The name of a symbol, empty where the form is none.
 fn text_of(form: &Sexpr) -> &[u8]

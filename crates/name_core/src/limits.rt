@@ -2,14 +2,13 @@
 ghost use Rattle.std.specs.Prelude.{◌≡◌, ◌<◌, ◌≤◌, ◌+◌, ◌++◌, map, length, IfNone, IfOk};
 ghost use Rattle.std.specs.List.{flat_map};
 ghost use Rattle.std.specs.Result.{result_err};
-ghost use Rattle.sexpr_core.specs.Access.{place_of};
-ghost use Rattle.syntax_core.specs.Shapes.{parts_of};
-ghost use Rattle.syntax_core.specs.Syntax.{atom_of, item_of, items_at, others_of, pair_of};
+ghost use Rattle.sexpr_core.specs.Access.{place_of, parts_of, item_of, others_of};
+ghost use Rattle.syntax_core.specs.Syntax.{atom_of, items_at, pair_of};
 ghost use Rattle.name_core.specs.Faults.{first, found_from, past};
 ghost use Rattle.name_core.specs.Limits.{constructor_limits, long_name, pair_limits, production_limits, type_limits, types_limits, wanted_limits};
 
-use sexpr_core::{Atom, Sexpr};
-use syntax_core::{Fault, item_of, items_at, others_of, parts_of};
+use sexpr_core::{Atom, Sexpr, item_of, others_of, parts_of};
+use syntax_core::{Fault, items_at};
 
 fn passed(limit: u8, place: u32) -> Fault
     ensures { result ≡ record { place = place; reason = 50; limit = limit } }

@@ -8,11 +8,10 @@ use Rattle.sexpr_core.specs.declared.form.Atom.{Atom}
 use Rattle.sexpr_core.specs.declared.form.Nest.{Nest}
 use Rattle.sexpr_core.specs.declared.form.Sexpr as sexpr
 use Rattle.sexpr_core.specs.declared.form.Sexpr.{Sexpr, the_lemmas}
-use Rattle.sexpr_core.specs.Access.{symbol_of}
+use Rattle.sexpr_core.specs.Access.{symbol_of, parts_of, item_of}
 use Rattle.sexpr_core.specs.Respelling.{AreSpellable}
 use Rattle.sexpr_core.specs.Respelling as able
-use Rattle.syntax_core.specs.Shapes.{parts_of}
-use Rattle.syntax_core.specs.Syntax.{atom_of, item_of, items_at, name_of}
+use Rattle.syntax_core.specs.Syntax.{atom_of, items_at, name_of}
 use Rattle.answer_laws.specs.Names.{CanBeSpelled}
 
 -- the name that the form is can be spelled, and so can its items

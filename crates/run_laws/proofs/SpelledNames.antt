@@ -7,13 +7,14 @@ use Rattle.sig_core.specs.declared.signature.Constructor.{Constructor}
 use Rattle.sig_core.specs.declared.signature.Relation.{Relation}
 use Rattle.sig_core.specs.Signatures.{Declarations}
 use Rattle.sexpr_core.specs.declared.form.Sexpr.{Sexpr}
+use Rattle.sexpr_core.specs.Access.{parts_of, item_of}
 use Rattle.sexpr_core.proofs.Respelled.{read_spellable}
 use Rattle.problem_core.specs.Problems.{Parts}
 use Rattle.syntax_core.specs.declared.commands.Head.{Head}
 use Rattle.syntax_core.specs.declared.commands.Head.TheVariants as head
 use Rattle.syntax_core.specs.declared.fault.Fault.{Fault}
-use Rattle.syntax_core.specs.Shapes.{refusal, parts_of}
-use Rattle.syntax_core.specs.Syntax.{functions_from, functions_of, item_of, items_at, pattern_of}
+use Rattle.syntax_core.specs.Shapes.{refusal}
+use Rattle.syntax_core.specs.Syntax.{functions_from, functions_of, items_at, pattern_of}
 use Rattle.name_core.specs.States.{State, Wanted, start}
 use Rattle.sort_core.specs.Relations.{relation_of}
 use Rattle.elab_core.specs.Making.{added, constructor_of, constructors_of, with_types}

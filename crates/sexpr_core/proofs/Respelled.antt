@@ -19,10 +19,10 @@ use Rattle.sexpr_core.proofs.Advances.{symbol_is_quoted}
 use Rattle.sexpr_core.proofs.Bytes.{list_all-weaker}
 use Rattle.sexpr_core.proofs.Tokens.{symbol_is_word}
 
-form_text-Symbol : (a : Atom) → form_text (sexpr.Symbol a) ≡ symbol_text a.bytes
+pub form_text-Symbol : (a : Atom) → form_text (sexpr.Symbol a) ≡ symbol_text a.bytes
 form_text-Symbol a = search (rules, the_lemmas)
 
-form_text-Numeral : (a : Atom) → form_text (sexpr.Numeral a) ≡ a.bytes
+pub form_text-Numeral : (a : Atom) → form_text (sexpr.Numeral a) ≡ a.bytes
 form_text-Numeral a = search (rules, the_lemmas)
 
 form_text-Text : (a : Atom) → form_text (sexpr.Text a) ≡ 34 ∷ (doubled a.bytes ++ 34 ∷ [])
@@ -31,7 +31,7 @@ form_text-Text a = search (rules, the_lemmas)
 form_text-Keyword : (a : Atom) → form_text (sexpr.Keyword a) ≡ 58 ∷ a.bytes
 form_text-Keyword a = search (rules, the_lemmas)
 
-form_text-List : (n : Nest) → form_text (sexpr.List n) ≡ 40 ∷ (joined (map form_text n.items) ++ 41 ∷ [])
+pub form_text-List : (n : Nest) → form_text (sexpr.List n) ≡ 40 ∷ (joined (map form_text n.items) ++ 41 ∷ [])
 form_text-List n = search (rules, the_lemmas)
 
 placeless-Symbol : (a : Atom) → placeless (sexpr.Symbol a) ≡ sexpr.Symbol (atom 0 a.bytes)
@@ -50,14 +50,14 @@ placeless-List : (n : Nest) → placeless (sexpr.List n) ≡ sexpr.List (record 
 placeless-List n = search (rules, the_lemmas)
 
 -- wherever the form's canonical spelling stands before bytes that don't go on with a token, it spells the same form
-abbrev Again : ℕ → Sexpr → Type 0
+abbrev pub Again : ℕ → Sexpr → Type 0
 Again depth form =
     (place : ℕ) (rest : List ℕ) (tail : List Sexpr) (end : ℕ) (last : List ℕ) →
     EndsBefore is_symbol_byte rest → EndsBefore (λ byte. byte == 34) rest →
     Spelled depth (place + length (form_text form)) rest tail end last →
     (other : Sexpr) × Spelled depth place (form_text form ++ rest) (other ∷ tail) end last × (placeless other ≡ placeless form)
 
-abbrev EachAgain : ℕ → List Sexpr → Type 0
+abbrev pub EachAgain : ℕ → List Sexpr → Type 0
 EachAgain depth [] = Unit {0}
 EachAgain depth (form ∷ forms) = Again depth form × EachAgain depth forms
 
@@ -140,7 +140,7 @@ list_again depth n each place rest tail end last word quote after =
     placeless-List (record { place = place; items = inner.0 }) ∙ ap (λ (items : List Sexpr). sexpr.List (record { place = 0; items = items })) inner.2 ∙ sym (placeless-List n) in
     (other, subst (λ b. Spelled (suc depth) place b (other ∷ tail) end last) bytes made, same)
 
-each_again : {depth : ℕ} {forms : List Sexpr} → AreSpellable depth forms → EachAgain depth forms
+pub each_again : {depth : ℕ} {forms : List Sexpr} → AreSpellable depth forms → EachAgain depth forms
 each_again (able.nothing depth) = tt
 each_again (able.symbol depth a forms h more) = (symbol_again depth a h (is_simple_symbol a.bytes) refl, each_again more)
 each_again (able.numeral depth a forms h more) = (

@@ -1,5 +1,5 @@
 -- What a form is, and what it holds.
-use Rattle.std.specs.Prelude.{ℕ, Bool, false, Option, Some, None, List}
+use Rattle.std.specs.Prelude.{ℕ, Bool, false, Option, Some, None, unwrap_or, List, [], drop, slice_get}
 use Rattle.std.specs.Option.{option_map_or}
 use Rattle.sig_core.specs.Names.{same_name}
 use Rattle.sexpr_core.specs.declared.form.Nest.{Nest}
@@ -48,6 +48,18 @@ items_in _ = None
 -- the forms of a list
 abbrev pub items_of : Sexpr → Option (List Sexpr)
 items_of form = items_in (out-Sexpr form)
+
+-- the items of a list; a token has none
+abbrev pub parts_of : Sexpr → List Sexpr
+parts_of form = unwrap_or (items_of form) []
+
+-- the item in this place, or the form itself where there is none
+abbrev pub item_of : ℕ → Sexpr → Sexpr
+item_of k form = unwrap_or (slice_get (parts_of form) k) form
+
+-- the items after the first
+abbrev pub others_of : Sexpr → List Sexpr
+others_of form = drop 1 (parts_of form)
 
 abbrev pub is_symbol : List ℕ → Sexpr → Bool
 is_symbol name form = option_map_or (same_name name) (symbol_of form) false

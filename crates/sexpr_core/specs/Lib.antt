@@ -4,6 +4,7 @@ pub mod Feeds
 pub mod Following
 pub mod Lexicon
 pub mod Model
+pub mod Numerals
 pub mod Prefixes
 pub mod Reading
 pub mod Respelling

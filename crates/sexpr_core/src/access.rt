@@ -1,9 +1,10 @@
 //! What a form is, and what it holds.
 ghost use Rattle.std.specs.Prelude.{◌≡◌};
 ghost use Rattle.std.specs.Option.{option_copied};
-ghost use Rattle.sexpr_core.specs.Access.{place_of, symbol_of, numeral_of, keyword_of, items_of, is_symbol, is_numeral, is_keyword};
+ghost use Rattle.sexpr_core.specs.Access.{place_of, symbol_of, numeral_of, keyword_of, items_of, parts_of, item_of, others_of, is_symbol, is_numeral, is_keyword};
 
 use crate::form::Sexpr;
+use items::at;
 
 impl Sexpr {
     /// The offset of the form's first byte in its text.
@@ -85,5 +86,35 @@ impl Sexpr {
             Some(found) => name == found,
             None => false,
         }
+    }
+}
+
+/// The items of a list; a token has none.
+pub fn parts_of(form: &Sexpr) -> &[Sexpr]
+    ensures { result.now ≡ parts_of form.now }
+{
+    match form {
+        Sexpr::List(nest) => nest.items.as_slice(),
+        _ => &[],
+    }
+}
+
+/// The item in this place, or the form itself where there is none.
+pub fn item_of(k: usize, form: &Sexpr) -> &Sexpr
+    ensures { result.now ≡ item_of k form.now }
+{
+    match at(parts_of(form), k) {
+        Some(item) => item,
+        None => form,
+    }
+}
+
+/// The items after the first.
+pub fn others_of(form: &Sexpr) -> &[Sexpr]
+    ensures { result.now ≡ others_of form.now }
+{
+    match parts_of(form) {
+        [] => &[],
+        [_, others @ ..] => others,
     }
 }

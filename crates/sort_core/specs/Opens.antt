@@ -7,6 +7,7 @@ use Rattle.sig_core.specs.Names.{place_of}
 use Rattle.sig_core.specs.Signatures.{Declarations}
 use Rattle.sig_core.specs.WellFormed.{relation_names}
 use Rattle.sexpr_core.specs.declared.form.Atom.{Atom}
+use Rattle.sexpr_core.specs.Numerals.{minus}
 use Rattle.expr_core.specs.declared.expr.Op.{Op}
 use Rattle.expr_core.specs.declared.expr.Op.TheVariants.{Minus}
 use Rattle.rule_core.specs.declared.rule.Who.TheVariants.{Own, Child}
@@ -18,7 +19,7 @@ use Rattle.syntax_core.specs.declared.syntax.Exp.TheOpen.{Exp-F, Application-F}
 use Rattle.syntax_core.specs.declared.syntax.Function.{Function}
 use Rattle.syntax_core.specs.declared.syntax.Case.{Case}
 use Rattle.syntax_core.specs.declared.syntax.Pair.{Pair}
-use Rattle.syntax_core.specs.Literals.{literal_named, minus, negative, positive}
+use Rattle.syntax_core.specs.Literals.{literal_named, negative, positive}
 use Rattle.syntax_core.specs.Roles.{operator_named}
 use Rattle.sort_core.specs.declared.open.OpenExp.{OpenExp}
 use Rattle.sort_core.specs.declared.open.OpenNode.{OpenNode, out-OpenNode}

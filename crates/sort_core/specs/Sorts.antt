@@ -13,7 +13,7 @@ use Rattle.sig_core.specs.Signatures.{Declarations, kinds_of}
 use Rattle.sig_core.specs.Values.{same_sort}
 use Rattle.sig_core.specs.WellFormed.{constructor_names, term_types}
 use Rattle.sexpr_core.specs.declared.form.Sexpr.{Sexpr}
-use Rattle.sexpr_core.specs.Access.{symbol_of}
+use Rattle.sexpr_core.specs.Access.{symbol_of, item_of, others_of}
 use Rattle.sexpr_core.specs.Access as access
 use Rattle.expr_core.specs.declared.expr.Op.{Op}
 use Rattle.expr_core.specs.declared.expr.Op.TheVariants.{Not, And, Or, Xor, Implies, Equal, Distinct, Ite, Add, Minus, Times, Div, Mod, Abs}
@@ -28,7 +28,7 @@ use Rattle.syntax_core.specs.declared.syntax.Function.{Function}
 use Rattle.syntax_core.specs.declared.syntax.Pair.{Pair}
 use Rattle.syntax_core.specs.declared.syntax.Pattern.{Pattern}
 use Rattle.syntax_core.specs.Literals.{digits_place, is_out_of_range, literal_of, place_of_exp, sort_of_literal}
-use Rattle.syntax_core.specs.Syntax.{atom_of, calls_of, deepest, functions_of, item_of, items_at, name_of, nonterminals_of, others_of, symbol_of_exp}
+use Rattle.syntax_core.specs.Syntax.{atom_of, calls_of, deepest, functions_of, items_at, name_of, nonterminals_of, symbol_of_exp}
 use Rattle.sort_core.specs.declared.open.OpenExp.{OpenExp}
 use Rattle.sort_core.specs.declared.open.OpenNode.{OpenNode, out-OpenNode}
 use Rattle.sort_core.specs.declared.open.OpenNode.TheFolds.{fold-OpenNode}

@@ -2,7 +2,8 @@
 ghost use Rattle.std.specs.Prelude.{◌≡◌, Some, None, option_map, if◌then◌else◌, IfOk};
 ghost use Rattle.std.specs.List.{flat_map, zip};
 ghost use Rattle.std.specs.Option.{option_copied};
-ghost use Rattle.syntax_core.specs.Syntax.{atom_of, item_of, items_at, name_of, nonterminals_of};
+ghost use Rattle.sexpr_core.specs.Access.{item_of};
+ghost use Rattle.syntax_core.specs.Syntax.{atom_of, items_at, name_of, nonterminals_of};
 ghost use Rattle.name_core.specs.Faults.{first, found_from};
 ghost use Rattle.sort_core.specs.Relations.{child_type, sort_of_pair, type_named};
 ghost use Rattle.sort_core.specs.Sorts.{constructor_at, group_faults, makes, production_argument, production_faults, start_faults, wanted_faults};
@@ -10,10 +11,10 @@ ghost use Rattle.sort_core.specs.Sorts.{constructor_at, group_faults, makes, pro
 use crate::functions::type_named;
 use items::at;
 use rule_core::same_type;
-use sexpr_core::Sexpr;
+use sexpr_core::{Sexpr, item_of, others_of};
 use sig_core::{Constructor, Signature, TypeId};
 use std::alloc::{AllocError, Global};
-use syntax_core::{Fault, Pair, Pairs, item_of, items_at, others_of, pair_of, refusal};
+use syntax_core::{Fault, Pair, Pairs, items_at, pair_of, refusal};
 
 /// The bytes of the symbol that the form is; none where it is none.
 fn text_of(form: &Sexpr) -> &[u8]

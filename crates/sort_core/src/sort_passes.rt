@@ -1,8 +1,9 @@
 //! The test of sorts, of any command but a `define-funs-rec`.
 ghost use Rattle.std.specs.Prelude.{◌≡◌, ◌≢◌, Some, option_map, IfOk};
 ghost use Rattle.std.specs.Option.{option_copied};
+ghost use Rattle.sexpr_core.specs.Access.{item_of};
 ghost use Rattle.syntax_core.specs.declared.commands.Head.TheVariants as Head;
-ghost use Rattle.syntax_core.specs.Syntax.{calls_of, deepest, item_of};
+ghost use Rattle.syntax_core.specs.Syntax.{calls_of, deepest};
 ghost use Rattle.name_core.specs.Faults.{first};
 ghost use Rattle.sort_core.specs.Sorts.{sorts};
 ghost use Rattle.name_core.specs.States.{State, Wanted};

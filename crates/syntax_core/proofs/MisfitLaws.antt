@@ -5,11 +5,11 @@ use Rattle.std.proofs.lemmas.Option.{slice_get_read}
 use Rattle.std.proofs.lemmas.List.Elements.{All-nil, All-head, All-tail}
 use Rattle.sexpr_core.specs.declared.form.Sexpr.{Sexpr}
 use Rattle.sexpr_core.specs.declared.form.Sexpr as sexpr
-use Rattle.sexpr_core.specs.Access.{place_of}
+use Rattle.sexpr_core.specs.Access.{place_of, parts_of}
 use Rattle.syntax_core.specs.declared.roles.Due.{Due}
 use Rattle.syntax_core.specs.Misfits.{leftmost, misfits, misfits_from}
 use Rattle.syntax_core.specs.Roles.{due_in, fits}
-use Rattle.syntax_core.specs.Shapes.{HasShape, IsMisfit, parts_of}
+use Rattle.syntax_core.specs.Shapes.{HasShape, IsMisfit}
 use Rattle.syntax_core.specs.Shapes.IsMisfit.{itself}
 use Rattle.syntax_core.proofs.FormInduction.{by_items}
 use Rattle.syntax_core.proofs.Misfitting.{fitting, leftmost-append, measure, misfit_first, misfits-is, parts-Keyword, parts-List, parts-Numeral, parts-Symbol, parts-Text, shaped_none}

@@ -7,11 +7,11 @@ use Rattle.sexpr_core.specs.declared.form.Nest.{Nest}
 use Rattle.sexpr_core.specs.declared.form.Sexpr.{Sexpr}
 use Rattle.sexpr_core.specs.declared.form.Sexpr as sexpr
 use Rattle.sexpr_core.specs.declared.form.Sexpr.TheFolds.{fold-Sexpr}
-use Rattle.sexpr_core.specs.Access.{place_of}
+use Rattle.sexpr_core.specs.Access.{place_of, parts_of}
 use Rattle.syntax_core.specs.declared.roles.Due.{Due}
 use Rattle.syntax_core.specs.Misfits.{Measured, leftmost, measured, measured_nest, measured_step, misfits, misfits_from}
 use Rattle.syntax_core.specs.Roles.{due_in, fits}
-use Rattle.syntax_core.specs.Shapes.{HasShape, IsMisfit, parts_of}
+use Rattle.syntax_core.specs.Shapes.{HasShape, IsMisfit}
 use Rattle.syntax_core.specs.Shapes.HasShape.{has_shape}
 use Rattle.syntax_core.specs.Shapes.IsMisfit.{itself, within}
 use Rattle.syntax_core.proofs.FormInduction.{by_items}

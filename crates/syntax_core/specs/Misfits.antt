@@ -4,10 +4,9 @@ use Rattle.sexpr_core.specs.declared.form.Sexpr.{Sexpr}
 use Rattle.sexpr_core.specs.declared.form.Sexpr as sexpr
 use Rattle.sexpr_core.specs.declared.form.Sexpr.TheOpen.{Sexpr-F, Nest-F}
 use Rattle.sexpr_core.specs.declared.form.Sexpr.TheFolds.{fold-Sexpr}
-use Rattle.sexpr_core.specs.Access.{place_of}
+use Rattle.sexpr_core.specs.Access.{place_of, parts_of}
 use Rattle.syntax_core.specs.declared.roles.Due.{Due}
 use Rattle.syntax_core.specs.Roles.{due_in, fits}
-use Rattle.syntax_core.specs.Shapes.{parts_of}
 
 -- a form with its misfits, by what is due in its place
 pub record Measured : Type 0 where

@@ -2,12 +2,10 @@
 ghost use Rattle.std.specs.Prelude.{◌≡◌, map, IfOk};
 ghost use Rattle.syntax_core.specs.Syntax.{atom_of, case_of, declaration_of, definition_of, function_of, functions_from, functions_of, has_outputs_first, pattern_of};
 
-use crate::access::{item_of, others_of};
 use crate::bodies::body_of;
 use crate::reading::{atom_of, atoms_of, name_of, pairs_of, symbols_of};
-use crate::shapes::parts_of;
 use crate::syntax::{Case, Cases, Declaration, Definition, Function, Functions, Pattern};
-use sexpr_core::Sexpr;
+use sexpr_core::{Sexpr, item_of, others_of, parts_of};
 use std::alloc::{AllocError, Global};
 
 /// `s` or `(s s ..)`

@@ -1,15 +1,14 @@
 //! The reading of types, constructors and nonterminals.
 ghost use Rattle.std.specs.Prelude.{◌≡◌, ◌++◌, map, IfOk, OnOk};
 ghost use Rattle.std.specs.List.{flat_map};
-ghost use Rattle.syntax_core.specs.Shapes.{parts_of};
+ghost use Rattle.sexpr_core.specs.Access.{parts_of};
 ghost use Rattle.syntax_core.specs.Syntax.{items_at, nonterminals_of, pattern_of, type_names};
 
-use crate::access::{item_of, items_at};
+use crate::access::items_at;
 use crate::functions::pattern_of;
 use crate::reading::{atom_of, pair_of};
-use crate::shapes::parts_of;
 use crate::syntax::{Pairs, Patterns, Symbols};
-use sexpr_core::Sexpr;
+use sexpr_core::{Sexpr, item_of, parts_of};
 use std::alloc::{AllocError, Global};
 
 /// The names of the types of a `declare-term-types`.

@@ -17,7 +17,7 @@ mod roles;
 mod shapes;
 mod syntax;
 
-pub use access::{begins, item_of, items_at, others_of};
+pub use access::{begins, items_at};
 pub use bodies::{body_of, calls_of};
 pub use commands::{Head, Order, head_named};
 pub use expr_core::operator_named;
@@ -26,12 +26,12 @@ pub use fault::Fault;
 pub use functions::functions_of;
 pub use grammars::{constructors_in, nonterminals_of, type_names};
 pub use literal::{
-    Literal, digits_place, is_negative, is_out_of_range, literal_named, literal_of, negative,
+    Literal, digits_place, is_out_of_range, literal_named, literal_of, negative,
     place_of_exp, positive, sort_of_literal,
 };
 pub use reading::{atom_of, name_of, pair_of, pairs_of, symbols_of};
 pub use roles::{Due, Role};
-pub use shapes::{command_head, first_item, misfit, parts_of, refusal, shape_fault};
+pub use shapes::{command_head, first_item, misfit, refusal, shape_fault};
 pub use syntax::{
     Application, Applications, Bodies, Body, Case, Cases, Declaration, Definition, Exp, Exps,
     Function, Functions, Leaf, Negative, Pair, Pairs, Pattern, Patterns, Scope, Symbols,

@@ -4,14 +4,14 @@ ghost use Rattle.std.specs.Option.{option_copied};
 ghost use Rattle.syntax_core.specs.declared.commands.Head.{Head};
 ghost use Rattle.syntax_core.specs.Misfits.{leftmost, misfits};
 ghost use Rattle.syntax_core.specs.Orders.{StandsFor};
-ghost use Rattle.syntax_core.specs.Shapes.{HasShape, IsCommand, IsMisfit, IsNoCommand, first_item, parts_of, refusal};
+ghost use Rattle.syntax_core.specs.Shapes.{HasShape, IsCommand, IsMisfit, IsNoCommand, first_item, refusal};
 
 use crate::commands::{Head, Order, head_named};
 use crate::dues::due_in;
 use crate::fault::Fault;
 use crate::fits::fits;
 use crate::roles::{Due, Role};
-use sexpr_core::Sexpr;
+use sexpr_core::{Sexpr, parts_of};
 
 /// The place of the leftmost node of the form that doesn't fit what is due where it stands. A node is left of its
 /// items.
@@ -73,16 +73,6 @@ pub fn refusal(place: u32, reason: u8) -> Fault
         place,
         reason,
         limit: 0,
-    }
-}
-
-/// The items of a list; a token has none.
-pub fn parts_of(form: &Sexpr) -> &[Sexpr]
-    ensures { result.now ≡ parts_of form.now }
-{
-    match form {
-        Sexpr::List(nest) => nest.items.as_slice(),
-        _ => &[],
     }
 }
 

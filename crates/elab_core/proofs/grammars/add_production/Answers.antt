@@ -1,9 +1,10 @@
 use Rattle.std.proofs.Common.{◌≡◌, map, ap, ap₂, ◌∙◌}
 use Rattle.sexpr_core.specs.declared.form.Atom.{Atom}
 use Rattle.sexpr_core.specs.declared.form.Sexpr.{Sexpr}
+use Rattle.sexpr_core.specs.Access.{others_of}
 use Rattle.grammar_core.specs.declared.ids.NtId.{NtId}
 use Rattle.grammar_core.specs.Refusals.{production_refusal}
-use Rattle.syntax_core.specs.Syntax.{atom_of, name_of, others_of}
+use Rattle.syntax_core.specs.Syntax.{atom_of, name_of}
 use Rattle.sort_core.specs.Branches.{constructor_named}
 use Rattle.sort_core.specs.Opens.{number_named}
 use Rattle.elab_core.proofs.NextItems.{where_none}

@@ -1,8 +1,9 @@
 use Rattle.std.proofs.Common.{◌≡◌, ℕ, List, ap, ◌∙◌}
 use Rattle.sig_core.specs.declared.ids.TypeId.{TypeId}
 use Rattle.sexpr_core.specs.declared.form.Atom.{Atom}
+use Rattle.sexpr_core.specs.Access.{item_of}
 use Rattle.grammar_core.specs.declared.production.Nonterminal.{Nonterminal}
-use Rattle.syntax_core.specs.Syntax.{atom_of, item_of}
+use Rattle.syntax_core.specs.Syntax.{atom_of}
 use Rattle.elab_core.specs.Making.{grammar_of}
 use Rattle.sort_core.specs.Relations.{type_named}
 use Rattle.name_core.specs.States.{Wanted}

@@ -3,7 +3,8 @@ use Rattle.sig_core.specs.declared.ids.TypeId.{TypeId}
 use Rattle.sig_core.specs.declared.signature.Constructor.{Constructor}
 use Rattle.sexpr_core.specs.declared.form.Atom.{Atom}
 use Rattle.sexpr_core.specs.declared.form.Sexpr.{Sexpr}
-use Rattle.syntax_core.specs.Syntax.{atom_of, name_of, others_of}
+use Rattle.sexpr_core.specs.Access.{others_of}
+use Rattle.syntax_core.specs.Syntax.{atom_of, name_of}
 use Rattle.name_core.specs.Names.{texts}
 use Rattle.sort_core.specs.Relations.{type_named}
 use Rattle.elab_core.proofs.Terms.{types_of_texts}

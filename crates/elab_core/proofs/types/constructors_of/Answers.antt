@@ -2,7 +2,7 @@ use Rattle.std.proofs.Common.{◌+◌, ◌++◌, List, map, drop, sym, ap, ◌�
 use Rattle.std.specs.List.{flat_map, enumerate_from}
 use Rattle.sig_core.specs.declared.signature.Constructor.{Constructor}
 use Rattle.sexpr_core.specs.declared.form.Sexpr.{Sexpr}
-use Rattle.syntax_core.specs.Shapes.{parts_of}
+use Rattle.sexpr_core.specs.Access.{parts_of}
 use Rattle.syntax_core.specs.Syntax.{pattern_of}
 use Rattle.elab_core.specs.Making.{constructor_of, constructors_of}
 use Rattle.elab_core.proofs.NextItems.{next_is}

@@ -1,4 +1,4 @@
-use Rattle.syntax_core.specs.Shapes.{parts_of}
+use Rattle.sexpr_core.specs.Access.{parts_of}
 use Rattle.name_core.specs.Limits.{constructor_limits}
 use Rattle.name_core.proofs.Loops.{parts_here, parts_next}
 use Rattle.name_core.proofs.limits.each_constructor_limit.Goals as goal

@@ -1,6 +1,6 @@
 use Rattle.std.proofs.Common.{◌≡◌, drop}
 use Rattle.std.specs.List.{flat_map}
-use Rattle.syntax_core.specs.Shapes.{parts_of}
+use Rattle.sexpr_core.specs.Access.{parts_of}
 use Rattle.name_core.specs.Faults.{first, found_from}
 use Rattle.name_core.specs.Limits.{constructor_limits}
 use Rattle.name_core.proofs.limits.each_constructor_limit.Given as goal

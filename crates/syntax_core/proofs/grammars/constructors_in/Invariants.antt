@@ -1,6 +1,6 @@
 use Rattle.std.proofs.Common.{◌≡◌, ◌++◌, map, drop}
 use Rattle.std.specs.List.{flat_map}
-use Rattle.syntax_core.specs.Shapes.{parts_of}
+use Rattle.sexpr_core.specs.Access.{parts_of}
 use Rattle.syntax_core.specs.Syntax.{pattern_of}
 use Rattle.syntax_core.proofs.grammars.constructors_in.Given as goal
 

@@ -1,6 +1,6 @@
 use Rattle.std.proofs.Common.{Some, Ok, sym, ap, ◌∙◌, arith}
+use Rattle.sexpr_core.specs.Access.{item_of}
 use Rattle.term_core.specs.Terms.{size}
-use Rattle.answer_core.specs.Numbers.{item_of}
 use Rattle.answer_core.specs.Readings.{term_of}
 use Rattle.answer_core.proofs.Banking.{map_kept, same_told, steps_kept}
 use Rattle.answer_core.proofs.Counting.{item_below, term_below}
