@@ -1,9 +1,9 @@
 -- Each `and` among the atoms of functions is taken apart. Other commands are read as no functions, or as faulty ones.
-use Rattle.std.proofs.Common.{◌≡◌, ◌≤◌, ℕ, suc, Bool, true, false, List, [], ◌∷◌, map, length, slice_get, Option, Some, None, is_some, All, refl, sym, ap, subst, ◌∙◌, if◌then◌else◌, arith}
+use Rattle.std.proofs.Common.{◌≡◌, ◌≤◌, ℕ, Bool, true, false, List, [], ◌∷◌, map, length, slice_get, Option, Some, None, is_some, All, refl, sym, ap, ◌∙◌, if◌then◌else◌, arith}
 use Rattle.std.specs.Prelude.{not, nat_eq, codes, unwrap_or}
 use Rattle.std.specs.List.{flat_map}
 use Rattle.std.specs.Option.{option_map_or}
-use Rattle.std.proofs.lemmas.List.Elements.{All-cons, All-head, All-nil, All-tail}
+use Rattle.std.proofs.lemmas.List.Elements.{All-nil}
 use Rattle.sig_core.specs.Names.{same_name}
 use Rattle.sexpr_core.specs.declared.form.Nest.{Nest}
 use Rattle.sexpr_core.specs.declared.form.Sexpr.{Sexpr, out-Sexpr}
@@ -12,59 +12,23 @@ use Rattle.sexpr_core.specs.Access.{items_in, items_of, keyword_in, numeral_in, 
 use Rattle.sexpr_core.specs.Sizes.{nesting}
 use Rattle.syntax_core.specs.declared.commands.Head.{Head}
 use Rattle.syntax_core.specs.declared.commands.Head.TheVariants as head
-use Rattle.syntax_core.specs.declared.fault.Fault.{Fault}
-use Rattle.syntax_core.specs.declared.roles.Due.TheVariants.{One, Many}
+use Rattle.syntax_core.specs.declared.roles.Due.TheVariants.{One}
 use Rattle.syntax_core.specs.declared.roles.Role.TheVariants as role
 use Rattle.syntax_core.specs.declared.syntax.Function.{Function}
-use Rattle.syntax_core.specs.Misfits.{misfits}
-use Rattle.syntax_core.specs.Roles.{after_symbol, are_of_command, are_of_definition, are_of_match, due_in_command, head_of, is_command, name_at_front}
-use Rattle.syntax_core.specs.Shapes.{HasShape, refusal}
-use Rattle.syntax_core.specs.Syntax.{case_of, deepest, function_of, functions_from, functions_of, pair_of}
-use Rattle.syntax_core.proofs.MisfitLaws.{no_misfits}
+use Rattle.syntax_core.specs.Roles.{after_symbol, are_of_command, due_in_command, head_of, is_command, name_at_front}
+use Rattle.syntax_core.specs.Shapes.{HasShape}
+use Rattle.syntax_core.specs.Syntax.{deepest, function_of, functions_from, functions_of, pair_of}
 use Rattle.name_core.specs.Faults.{first, shapes}
 use Rattle.name_core.specs.Names.{term_pairs}
 use Rattle.name_core.proofs.LimitFacts.{no_items}
 use Rattle.sort_core.specs.Sorts.{declaration_faults}
-use Rattle.elab_core.proofs.Apart.{false_true, fit_of, item_shape}
-use Rattle.elab_core.proofs.ApartCases.{Nests, at_each, cases_apart, item_nests, items_nest, list_item, passes_parts}
-use Rattle.elab_core.proofs.CaseNames.{HasApartCases, HasApartRules}
+use Rattle.elab_core.proofs.Apart.{apart_conjuncts}
+use Rattle.elab_core.proofs.CaseNames.{HasApartCases}
+use Rattle.elab_core.proofs.Conjunctions.{IsApart}
+use Rattle.elab_core.proofs.EachAtom.{definitions_hold}
 use Rattle.elab_core.proofs.Fits.{none-left}
 use Rattle.elab_core.proofs.Fits as fits
-
--- Definitions.
-
-second_of : (items : List Sexpr) → are_of_definition items ≡ true → (item : Sexpr) × (slice_get items 1 ≡ Some item)
-second_of [] h = absurd (false_true h)
-second_of (a ∷ []) h = absurd (false_true h)
-second_of (a ∷ b ∷ items) h = (b, refl)
-
-third_of : (items : List Sexpr) → are_of_match items ≡ true → (item : Sexpr) × (slice_get items 2 ≡ Some item)
-third_of [] h = absurd (false_true h)
-third_of (a ∷ []) h = absurd (false_true h)
-third_of (a ∷ b ∷ []) h = absurd (false_true h)
-third_of (a ∷ b ∷ c ∷ items) h = (c, refl)
-
-match_cases : (form : Sexpr) → HasShape (One role.Match) form → Nests deepest form → All HasApartRules (map case_of (parts_of (item_of 2 form)))
-match_cases form shape nests =
-    let third = third_of (parts_of form) (passes_parts are_of_match (items_of form) (fit_of shape)) in
-    let shaped : HasShape (Many role.Case) third.0 = item_shape shape 2 third.0 third.1 in
-    let same : third.0 ≡ item_of 2 form = sym (ap (λ o. unwrap_or o form) third.1) in
-    cases_apart (parts_of (item_of 2 form)) (item_shape (subst (HasShape (Many role.Case)) same shaped)) (items_nest deepest (item_of 2 form) (item_nests deepest 2 form nests))
-
-definition_apart : (declaration form : Sexpr) → HasShape (One role.Definition) form → Nests deepest form → HasApartCases (function_of declaration form)
-definition_apart declaration form shape nests =
-    let second = second_of (parts_of form) (passes_parts are_of_definition (items_of form) (fit_of shape)) in
-    let shaped : HasShape (One role.Match) second.0 = item_shape shape 1 second.0 second.1 in
-    let same : second.0 ≡ item_of 1 form = sym (ap (λ o. unwrap_or o form) second.1) in
-    match_cases (item_of 1 form) (subst (HasShape (One role.Match)) same shaped) (item_nests deepest 1 form nests)
-
-definitions_apart : (declarations definitions : List Sexpr) → ((k : ℕ) (form : Sexpr) → slice_get definitions k ≡ Some form → HasShape (One role.Definition) form) →
-    All (Nests deepest) definitions → All HasApartCases (functions_from declarations definitions)
-definitions_apart [] definitions shaped nests = All-nil HasApartCases
-definitions_apart (d ∷ ds) [] shaped nests = All-nil HasApartCases
-definitions_apart (d ∷ ds) (e ∷ es) shaped nests =
-    All-cons HasApartCases (function_of d e) (functions_from ds es) (definition_apart d e (shaped 0 e refl) (All-head (Nests deepest) e es nests))
-    (definitions_apart ds es (λ k form at. shaped (suc k) form at) (All-tail (Nests deepest) e es nests))
+use Rattle.elab_core.proofs.ShapedForms.{Nests, at_each, false_true, fit_of, has_its_shape, item_shape, items_nest, list_item, passes_parts}
 
 -- Commands of another word.
 
@@ -136,7 +100,7 @@ AreDue h items = (k : ℕ) (item : Sexpr) → slice_get items k ≡ Some item �
 by_head : (form w : Sexpr) (others : List Sexpr) (h : Head) → are_of_command h others ≡ true → AreDue h (w ∷ others) → All (Nests deepest) (w ∷ others) → parts_of form ≡ w ∷ others →
     first (flat_map declaration_faults (read form (w ∷ others))) ≡ None → All HasApartCases (read form (w ∷ others))
 by_head form w (ds ∷ es ∷ []) head.DefineFunsRec fit shaped nests parts none =
-    definitions_apart (parts_of ds) (parts_of es) (item_shape (shaped 2 es refl)) (items_nest deepest es (at_each (Nests deepest) (w ∷ ds ∷ es ∷ []) 2 es nests refl))
+    definitions_hold IsApart apart_conjuncts (parts_of ds) (parts_of es) (item_shape (shaped 2 es refl)) (items_nest deepest es (at_each (Nests deepest) (w ∷ ds ∷ es ∷ []) 2 es nests refl))
 by_head form w [] head.DefineFunsRec fit shaped nests parts none = absurd (false_true fit)
 by_head form w (a ∷ []) head.DefineFunsRec fit shaped nests parts none = absurd (false_true fit)
 by_head form w (a ∷ b ∷ c ∷ others) head.DefineFunsRec fit shaped nests parts none = absurd (false_true fit)
@@ -167,15 +131,8 @@ by_parts : (form : Sexpr) (items : List Sexpr) → is_command items ≡ true →
 by_parts form [] fit shaped nests parts none = absurd (false_true fit)
 by_parts form (w ∷ others) fit shaped nests parts none = by_word form w others (head_of (w ∷ others)) fit shaped nests parts none
 
-some_none : (fault : Fault) → Some fault ≡ None → ⊥
-some_none fault h = cc
-
-no_places : (places : List ℕ) → first (map (λ place. refusal place 10) places) ≡ None → places ≡ []
-no_places [] h = refl
-no_places (place ∷ places) h = absurd (some_none (refusal place 10) h)
-
 -- the functions of a command of right shape, each of which has a parameter that is a term
 pub functions_apart : (form : Sexpr) → first (shapes form) ≡ None → nesting form ≤ 200 → first (flat_map declaration_faults (functions_of form)) ≡ None → All HasApartCases (functions_of form)
 functions_apart form none nests faults =
-    let shape : HasShape (One role.Command) form = (no_misfits (One role.Command) form).1 (no_places (misfits (One role.Command) form) none) in
+    let shape : HasShape (One role.Command) form = has_its_shape form none in
     by_parts form (parts_of form) (passes_parts is_command (items_of form) (fit_of shape)) (item_shape shape) (items_nest deepest form nests) refl faults

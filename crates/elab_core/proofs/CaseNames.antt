@@ -12,17 +12,18 @@ use Rattle.name_core.specs.Names.{names_in, texts}
 use Rattle.name_core.proofs.LimitFacts.{BranchFits, CaseFits, FunctionFits}
 use Rattle.name_core.proofs.NameFacts.{BranchNamed, CaseNamed, DeclarationNamed, DefinitionNamed, IsFree}
 use Rattle.elab_core.proofs.Conjunctions.{IsApart}
+use Rattle.elab_core.proofs.EachAtom.{HasAtoms, HasCases, HasRules}
 use Rattle.elab_core.proofs.RuleSoundness.{HasNamedCases, IsNamed}
 
 -- each `and` among the atoms is taken apart
 abbrev pub HasApartAtoms : Branch → Type 0
-HasApartAtoms branch = All IsApart branch.leaf.atoms
+HasApartAtoms = HasAtoms IsApart
 
 abbrev pub HasApartRules : Case → Type 0
-HasApartRules case = All HasApartAtoms (branches_of case)
+HasApartRules = HasRules IsApart
 
 abbrev pub HasApartCases : Function → Type 0
-HasApartCases f = All HasApartRules f.definition.cases
+HasApartCases = HasCases IsApart
 
 -- what holds of the names of parameters, of children and of existentials holds of a rule's names
 all_names : (P : List ℕ → Type 0) (params around : List Pair) (children : List Atom) → All (λ (p : Pair). P p.name.bytes) params → All (λ (a : Atom). P a.bytes) children →

@@ -3,7 +3,7 @@ use Rattle.std.proofs.Common.{rules, lit<, ◌≡◌, ◌<◌, ◌≤◌, ℕ, �
 use Rattle.std.specs.Prelude.{nat_eq, nat_lt, codes}
 use Rattle.std.specs.List.{flat_map}
 use Rattle.std.specs.Cmp.Lexicographic.{bytes_decides}
-use Rattle.std.proofs.lemmas.Bool.{eqb-true}
+use Rattle.std.proofs.lemmas.Bool.{eqb-true, not-false, or_parts}
 use Rattle.std.proofs.lemmas.Bool.Decides.{nat_tests}
 use Rattle.std.proofs.lemmas.List.{append-nil, append_assoc, length-append, length-map, map-append}
 use Rattle.std.proofs.lemmas.List.Elements.{All-cons, All-nil}
@@ -13,7 +13,6 @@ use Rattle.sig_core.specs.declared.signature.Kind.TheVariants.{Term, Input, Outp
 use Rattle.sig_core.specs.declared.value.Sort.{Sort}
 use Rattle.sig_core.specs.declared.signature.Param.{Param}
 use Rattle.sig_core.specs.declared.signature.Relation.{Relation}
-use Rattle.sig_core.specs.declared.signature.SigError.{SigError}
 use Rattle.sig_core.specs.Names.{AreDistinct, is_reserved, place_of, same_name}
 use Rattle.sig_core.specs.Refusals.{with_relation}
 use Rattle.sig_core.specs.Signatures.{Declarations}
@@ -30,8 +29,8 @@ use Rattle.name_core.specs.Names.{declaration_names, function_names, has, is_pla
 use Rattle.sort_core.specs.Opens.{number_named}
 use Rattle.sort_core.specs.Relations.{param_of, relation_of, sort_named, type_named}
 use Rattle.sort_core.specs.Sorts.{declaration_faults}
-use Rattle.elab_core.proofs.Fits.{has-append, neither, none-left, none-right, passes, stands_among, within_limit}
-use Rattle.elab_core.proofs.Terms.{number_within}
+use Rattle.elab_core.proofs.Fits.{both_false, has-append, none-left, none-right, passes, stands_among, within_limit}
+use Rattle.elab_core.proofs.Terms.{accepted_by, number_within}
 
 -- The parameters.
 
@@ -44,7 +43,7 @@ names_of_all sig inputs [] = refl
 names_of_all sig inputs (pair ∷ pairs) = ap (λ ns. pair.name.bytes ∷ ns) (names_of_all sig inputs pairs)
 
 unfit_free : (taken : List (List ℕ)) (name : Atom) → first (unfit_name taken name) ≡ None → (has taken name.bytes ≡ false) × (is_reserved name.bytes ≡ false)
-unfit_free taken name h = neither (has taken name.bytes) (is_reserved name.bytes) (passes (has taken name.bytes || is_reserved name.bytes) 21 name.place h)
+unfit_free taken name h = or_parts (has taken name.bytes) (is_reserved name.bytes) (passes (has taken name.bytes || is_reserved name.bytes) 21 name.place h)
 
 distinct_from : (sig : Declarations) (before pairs : List Pair) → AreDistinct (names_in before) → first (found_after (parameter_names sig) before pairs) ≡ None → AreDistinct (names_in (before ++ pairs))
 distinct_from sig before [] d h = subst (λ ps. AreDistinct (names_in ps)) (sym (append-nil before)) d
@@ -108,7 +107,7 @@ neither_sort false false p q = refl
 
 no_sort : (name : List ℕ) → is_sort name ≡ false → has sort_names name ≡ false
 no_sort name h =
-    let apart : (same_name (codes "Int") name ≡ false) × (same_name (codes "Bool") name ≡ false) = neither (same_name (codes "Int") name) (same_name (codes "Bool") name) h in
+    let apart : (same_name (codes "Int") name ≡ false) × (same_name (codes "Bool") name ≡ false) = or_parts (same_name (codes "Int") name) (same_name (codes "Bool") name) h in
     stands_among (same_name name) sort_names ∙ neither_sort (same_name name (codes "Int")) (same_name name (codes "Bool")) (other_way (codes "Int") name apart.0) (other_way (codes "Bool") name apart.1)
 
 first_of : (a b : Bool) → not (a || b) ≡ false → b ≡ false → not a ≡ false
@@ -143,10 +142,6 @@ terms_declared sig before (pair ∷ pairs) h =
 none_distinct : AreDistinct []
 none_distinct = search rules
 
-both_false : (a b : Bool) → a ≡ false → b ≡ false → (a || b) ≡ false
-both_false true b p q = absurd (cc)
-both_false false b p q = q
-
 below : (n most : ℕ) → n < most → nat_lt n most ≡ true
 below n most h = grind (arith, nat_tests)
 
@@ -158,23 +153,12 @@ single [] h = absurd (omega arith)
 single (pair ∷ []) h = (pair, refl)
 single (pair ∷ other ∷ pairs) h = absurd (omega arith)
 
-accepted_by : (a b c : Bool) (e f g : SigError) → a ≡ false → b ≡ true → c ≡ false →
-    (if a then Some e else if b then (if c then Some f else None) else Some g) ≡ None
-accepted_by true b c e f g p q r = absurd (cc)
-accepted_by false false c e f g p q r = absurd (cc)
-accepted_by false true true e f g p q r = absurd (cc)
-accepted_by false true false e f g p q r = refl
-
-is_true : (b : Bool) → not b ≡ false → b ≡ true
-is_true true h = refl
-is_true false h = absurd (cc)
-
 relation_fine : (sig base : Declarations) (f : Function) → sig.types ≡ base.types → first (found_after (parameter_names base) [] f.declaration.params) ≡ None → first (declaration_faults f) ≡ None →
     IsRelation (length sig.types) (relation_of base f)
 relation_fine sig base f same names faults =
     let pairs : List Pair = f.declaration.params in
     let inputs : List Atom = f.definition.inputs in
-    let count : length (term_pairs pairs) ≡ 1 = eqb-true (length (term_pairs pairs)) 1 (is_true _ (passes (not (nat_eq (length (term_pairs pairs)) 1)) 30 f.declaration.place faults)) in
+    let count : length (term_pairs pairs) ≡ 1 = eqb-true (length (term_pairs pairs)) 1 (not-false _ (passes (not (nat_eq (length (term_pairs pairs)) 1)) 30 f.declaration.place faults)) in
     let one = single (term_pairs pairs) count in
     let type : TypeId = type_named base one.0.sort.bytes in
     let all : All (HasType base) (one.0 ∷ []) = subst (All (HasType base)) one.1 (terms_declared base [] pairs names) in

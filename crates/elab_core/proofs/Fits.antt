@@ -2,7 +2,7 @@
 use Rattle.std.proofs.Common.{◌≡◌, ◌<◌, ℕ, suc, ◌+◌, Bool, true, false, not, cond, ◌||◌, List, [], ◌∷◌, ◌++◌, length, Some, None, is_some, refl, sym, ap, ◌∙◌, if◌then◌else◌, arith}
 use Rattle.std.specs.Prelude.{nat_lt, position, codes}
 use Rattle.std.specs.List.{list_any}
-use Rattle.std.proofs.lemmas.Bool.{ltb-true}
+use Rattle.std.proofs.lemmas.Bool.{ltb-true, or_parts}
 use Rattle.std.proofs.lemmas.Bool.Decides.{nat_tests}
 use Rattle.std.proofs.lemmas.List.{append_assoc, length-append, map-append}
 use Rattle.std.proofs.lemmas.List.Folds.{list_any-append}
@@ -49,10 +49,6 @@ pub stands_among : {X : Type 0} (p : X → Bool) (xs : List X) → is_some (posi
 stands_among p [] = refl
 stands_among p (x ∷ xs) = counted (p x) _ (length xs) (list_any p xs) (stands_among p xs)
 
-pub neither : (a b : Bool) → (a || b) ≡ false → (a ≡ false) × (b ≡ false)
-neither true b h = absurd (cc)
-neither false b h = (refl, h)
-
 pub has-append : (xs ys : List (List ℕ)) (name : List ℕ) → has (xs ++ ys) name ≡ (has xs name || has ys name)
 has-append xs ys name =
     stands_among (same_name name) (xs ++ ys) ∙ list_any-append (same_name name) xs ys
@@ -80,13 +76,13 @@ no_sort_by false false h = refl
 no_sort : (name : List ℕ) → has sort_names name ≡ false → (same_name name (codes "Int") || same_name name (codes "Bool")) ≡ false
 no_sort name h = no_sort_by (same_name name (codes "Int")) (same_name name (codes "Bool")) (sym (stands_among (same_name name) sort_names) ∙ h)
 
-both_false : (a b : Bool) → a ≡ false → b ≡ false → (a || b) ≡ false
+pub both_false : (a b : Bool) → a ≡ false → b ≡ false → (a || b) ≡ false
 both_false true b p q = absurd (cc)
 both_false false b p q = q
 
 accepted : (sig : Declarations) (types : List (List ℕ)) (name : List ℕ) → sig.types ≡ types → has (types ++ sort_names) name ≡ false → nat_lt (length sig.types) 256 ≡ true → type_refusal sig name ≡ None
 accepted sig types name e h l =
-    let apart : (has types name ≡ false) × (has sort_names name ≡ false) = neither (has types name) (has sort_names name) (sym (has-append types sort_names name) ∙ h) in
+    let apart : (has types name ≡ false) × (has sort_names name ≡ false) = or_parts (has types name) (has sort_names name) (sym (has-append types sort_names name) ∙ h) in
     let new : has sig.types name ≡ false = ap (λ ts. has ts name) e ∙ apart.0 in
     accepted_by _ _ _ _ (both_false (has sig.types name) _ new (no_sort name apart.1)) l
 

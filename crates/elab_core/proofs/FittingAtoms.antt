@@ -4,6 +4,7 @@ use Rattle.std.specs.Prelude.{not, ◌&&◌, nat_eq, option_and_then, All, if◌
 use Rattle.std.specs.List.{list_all}
 use Rattle.std.specs.Option.{option_map_or, option_or}
 use lib.Pointwise.{pointwise}
+use Rattle.std.proofs.lemmas.Bool.{and_parts}
 use Rattle.std.proofs.lemmas.Bool.Decides.{nat_tests}
 use Rattle.std.proofs.lemmas.List.Elements.{All-nil, All-cons, All-head, All-tail}
 use Rattle.sig_core.specs.declared.ids.RelId.{RelId}
@@ -53,7 +54,7 @@ use Rattle.elab_core.specs.Flowing.{IsUnknown, existential, output, used}
 use Rattle.elab_core.specs.Rules.{atom_of, atoms_from, call_atom, equation_atom, expr_of, expr_of_node, filled_slot, input_args, output_args, term_args, who_in, who_of}
 use Rattle.elab_core.proofs.Exprs.{expr-Apply, expr-Call}
 use Rattle.elab_core.proofs.Smallness.{atom_cases, equation_cases, is_apply, parts_each, parts_in, parts_of_node}
-use Rattle.elab_core.proofs.SortLaws.{IsSorted, all_full, both, full-Apply, have_sorts, is_full, placed_as, sorted_exp}
+use Rattle.elab_core.proofs.SortLaws.{IsSorted, all_full, full-Apply, have_sorts, is_full, placed_as, sorted_exp}
 
 -- The sort of what stands where a sort is wanted.
 
@@ -257,7 +258,7 @@ atom_fits types sig vars rule e fine count full calls none known =
         (sorted_exp sig vars (slot_sorts sig rule) count x (All-head (λ x. is_full x ≡ true) x xs all)) (sorted_each xs (All-tail (λ x. is_full x ≡ true) x xs all))
 
     args_full : (app : Application) → e ≡ exp.Apply app → All (λ x. is_full x ≡ true) app.args
-    args_full app is = all_full app.args (both (option_map_or (λ o. takes o (length app.args)) (operator_named app.head.bytes) true) (list_all (λ b. b) (map is_full app.args)) (sym (full-Apply app) ∙ sym (ap is_full is) ∙ full)).1
+    args_full app is = all_full app.args (and_parts (option_map_or (λ o. takes o (length app.args)) (operator_named app.head.bytes) true) (list_all (λ b. b) (map is_full app.args)) (sym (full-Apply app) ∙ sym (ap is_full is) ∙ full)).1
 
     parts : All (IsSorted (slot_sorts sig rule)) (parts_of_node (opened sig vars e).node)
     parts = parts_each (IsSorted (slot_sorts sig rule)) sig vars e (λ app is. sorted_each app.args (args_full app is))

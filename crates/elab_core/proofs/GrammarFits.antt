@@ -2,6 +2,7 @@
 use Rattle.std.proofs.Common.{◌≡◌, ◌<◌, ◌≤◌, ℕ, ◌+◌, Bool, true, false, List, [], ◌∷◌, ◌++◌, map, length, get_or, set, Some, None, All, refl, sym, ap, ◌∙◌, if◌then◌else◌, arith}
 use Rattle.std.specs.Prelude.{nat_lt, slice_get}
 use Rattle.std.specs.List.{flat_map, zip}
+use Rattle.std.proofs.lemmas.Bool.{or_parts}
 use Rattle.std.proofs.lemmas.Bool.Decides.{nat_tests}
 use Rattle.std.proofs.lemmas.List.{append_assoc, get_or-map, length-append, length-map, map-append, map-set, set-get_or}
 use Rattle.std.proofs.lemmas.List.Elements.{All-head, All-tail, All-weaker}
@@ -24,7 +25,7 @@ use Rattle.sort_core.specs.Relations.{type_named}
 use Rattle.elab_core.specs.Fitting.{GroupsFit, NonterminalsFit, ProductionFits, ProductionsFit, with_productions}
 use Rattle.elab_core.specs.Making.{production_of}
 use Rattle.elab_core.proofs.Filled.{group_productions}
-use Rattle.elab_core.proofs.Fits.{has-append, neither, none-left, none-right, passes}
+use Rattle.elab_core.proofs.Fits.{has-append, none-left, none-right, passes}
 use Rattle.elab_core.proofs.Productions.{IsMade, IsMadeGroup, makes_over, makes_same, no_type, owner_at, owners_of, types_of}
 
 -- Nonterminals.
@@ -44,7 +45,7 @@ nonterminals_fit sig before (pair ∷ pairs) cur names few h =
     let here : first (nonterminal_names sig before pair) ≡ None = none-left (nonterminal_names sig before pair) _ h in
     let taken : has (names_in before ++ constructor_names sig.constructors) name ≡ false = passes _ 21 pair.name.place (none-left (taken_name (names_in before ++ constructor_names sig.constructors) pair.name) (unknown_name sig.types pair.sort) here) in
     let apart : (has (names_in before) name ≡ false) × (has (constructor_names sig.constructors) name ≡ false) =
-    neither (has (names_in before) name) (has (constructor_names sig.constructors) name) (sym (has-append (names_in before) (constructor_names sig.constructors) name) ∙ taken) in
+    or_parts (has (names_in before) name) (has (constructor_names sig.constructors) name) (sym (has-append (names_in before) (constructor_names sig.constructors) name) ∙ taken) in
     let free : has (names_of cur) name ≡ false = ap (λ ns. has ns name) names ∙ apart.0 in
     let below : nat_lt (length cur) 256 ≡ true = grind (arith, nat_tests) in
     let longer : length next ≡ length cur + 1 = omega (arith, length-append cur (added ∷ [])) in

@@ -3,6 +3,7 @@ use Rattle.std.proofs.Common.{◌≡◌, ◌<◌, ◌≤◌, ℕ, zero, suc, ◌
 use Rattle.std.specs.Prelude.{nat_lt, slice_get}
 use Rattle.std.specs.List.{flat_map, zip}
 use Rattle.std.specs.Cmp.Lexicographic.{bytes_decides}
+use Rattle.std.proofs.lemmas.Bool.{not-false}
 use Rattle.std.proofs.lemmas.List.{length-append, length-map}
 use Rattle.std.proofs.lemmas.List.Elements.{All-head, All-map, All-nil, All-tail, All-weaker}
 use Rattle.std.proofs.lemmas.List.Sums.{sum_by-cons}
@@ -45,10 +46,6 @@ use Rattle.elab_core.proofs.GrammarFits.{groups_fit, nonterminals_fit}
 use Rattle.elab_core.proofs.Groupings.{HasGroups, IsOfWord, has_groups}
 use Rattle.elab_core.proofs.Productions.{IsMade, IsMadeGroup, groups_made, makes_over, makes_same, owners_of, types_of}
 use Rattle.elab_core.proofs.Terms.{number_within}
-
-is_not : (b : Bool) → not b ≡ false → b ≡ true
-is_not true h = refl
-is_not false h = absurd (cc)
 
 -- A grammar of nonterminals and groups.
 
@@ -153,7 +150,7 @@ start_type : (sig : Declarations) (name : List ℕ) (names : List (List ℕ)) (p
 start_type sig name names [] groups count some h = absurd (omega arith)
 start_type sig name names (pair ∷ pairs) [] count some h = absurd (omega arith)
 start_type sig name names (pair ∷ pairs) (group ∷ groups) count some h =
-    let same : same_name name pair.sort.bytes ≡ true = is_not (same_name name pair.sort.bytes) (passes _ 30 pair.sort.place h) in
+    let same : same_name name pair.sort.bytes ≡ true = not-false (same_name name pair.sort.bytes) (passes _ 30 pair.sort.place h) in
     ap (type_named sig) (named_alike name pair.sort.bytes same)
 
 -- The grammar of all terms.

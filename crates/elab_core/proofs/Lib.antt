@@ -9,6 +9,7 @@ pub mod BranchWidths
 pub mod Growing
 pub mod Filled
 pub mod NextItems
+pub mod ShapedForms
 pub mod Weights
 pub mod Exprs
 pub mod Soundings
@@ -22,6 +23,7 @@ pub mod Rising
 pub mod SpelledPlaces
 pub mod SortLaws
 pub mod FittingAtoms
+pub mod EachAtom
 pub mod FullAtoms
 pub mod FlowLaws
 pub mod Chains
@@ -35,7 +37,6 @@ pub mod SortOrder
 pub mod Relating
 pub mod CaseNames
 pub mod Apart
-pub mod ApartCases
 pub mod ApartFunctions
 pub mod FunctionsTaken
 pub mod Groupings

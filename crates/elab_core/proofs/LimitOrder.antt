@@ -24,11 +24,11 @@ use Rattle.name_core.specs.Limits.{call_limits, case_limits, constructor_limits,
 use Rattle.name_core.specs.States.{State}
 use Rattle.elab_core.specs.Places.{AreInOrder, places_in}
 use Rattle.elab_core.proofs.Chains.{Chain, InOrder, Such, all_at, chain_flat, chain_higher, chain_lower, chain_map, faults_after, faults_each, faults_from, nothing, order_joined, order_lower, span_others, span_parts, span_place, spans_chain, such_chain}
-use Rattle.elab_core.proofs.FullAtoms.{false_true, fit_of, has_its_shape, item_shape, listed, passes_parts}
 use Rattle.elab_core.proofs.InPlaces.{AtomIn, NodeIn, PairIn, filled, items_chain, pair_in, pairs_chain, three_items}
 use Rattle.elab_core.proofs.PlacedCommands.{Declared, Defined, SiteIn, declared_chain, defined_chain, sites_chain}
 use Rattle.elab_core.proofs.Rising.{Ordered, bounds, in_order, ordered_higher, ordered_joined}
-use Rattle.elab_core.proofs.SpelledPlaces.{SpanAll, Spans}
+use Rattle.elab_core.proofs.ShapedForms.{false_true, fit_of, has_its_shape, item_shape, listed, passes_parts}
+use Rattle.elab_core.proofs.SpelledPlaces.{Spans}
 
 -- The items of a command.
 
@@ -178,19 +178,21 @@ functions_order relations rules low middle high functions h k =
 
 -- Examples.
 
-abbrev pub CallPlace : ℕ → Application → ℕ → Type 0
+abbrev CallPlace : ℕ → Application → ℕ → Type 0
 CallPlace low call high = (low ≤ call.place) × (call.place < high)
 
-calls_chain : (depth low : ℕ) (form : Sexpr) (high : ℕ) → Spans low form high → Chain CallPlace low (calls_of depth form) high
+-- what holds of a call where its form stands holds of each call of an example
+pub calls_chain : (In : ℕ → Application → ℕ → Type 0) → ((low : ℕ) (form : Sexpr) (high : ℕ) → Spans low form high → In low (call_of form) high) →
+    (depth low : ℕ) (form : Sexpr) (high : ℕ) → Spans low form high → Chain In low (calls_of depth form) high
 unfolding calls_of
-calls_chain zero low form high h = (low, high, omega arith, span_place low form high h, omega arith)
-calls_chain (suc depth) low form high h = by (begins (codes "and") form) (λ low form high h. calls_chain depth low form high h)
+calls_chain In each zero low form high h = (low, high, omega arith, each low form high h, omega arith)
+calls_chain In each (suc depth) low form high h = by (begins (codes "and") form) (λ low form high h. calls_chain In each depth low form high h)
   where
-    by : (b : Bool) → ((low : ℕ) (form : Sexpr) (high : ℕ) → Spans low form high → Chain CallPlace low (calls_of depth form) high) →
-        Chain CallPlace low (if b then flat_map (calls_of depth) (others_of form) else call_of form ∷ []) high
+    by : (b : Bool) → ((low : ℕ) (form : Sexpr) (high : ℕ) → Spans low form high → Chain In low (calls_of depth form) high) →
+        Chain In low (if b then flat_map (calls_of depth) (others_of form) else call_of form ∷ []) high
     by true inner =
-        chain_flat Spans CallPlace (calls_of depth) inner low (others_of form) high (spans_chain low (others_of form) high (span_others low (parts_of form) high (span_parts low form high h)))
-    by false inner = (low, high, omega arith, span_place low form high h, omega arith)
+        chain_flat Spans In (calls_of depth) inner low (others_of form) high (spans_chain low (others_of form) high (span_others low (parts_of form) high (span_parts low form high h)))
+    by false inner = (low, high, omega arith, each low form high h, omega arith)
 
 call_order : (n low : ℕ) (call : Application) (high : ℕ) → CallPlace low call high → InOrder low (call_limits n call) high
 call_order n low call high h = let to = h.1 in wider low (past 1024 14 n call.place) (call.place + 1) high (omega (arith, to)) (one_limit 1024 14 n call.place low (omega arith) h.0)
@@ -221,7 +223,7 @@ productions_chain low group high h =
 abbrev pub Ranked : List Fault → Type 0
 Ranked faults = (low : ℕ) × (high : ℕ) × InOrder low faults high
 
-none_ranked : Ranked []
+pub none_ranked : Ranked []
 none_ranked = (0, 0, omega arith)
 
 terms_ranked : (types constructors low : ℕ) (form : Sexpr) (high : ℕ) → Command head.DeclareTermTypes form → Spans low form high → Ranked (types_limits types constructors form)
@@ -285,19 +287,24 @@ functions_ranked relations rules low form high c h =
     let f = functions_in low form high c h in
     (f.low, f.high, functions_order relations rules f.low f.middle f.high (functions_of form) f.declared f.defined)
 
-examples_ranked : (n low : ℕ) (form : Sexpr) (high : ℕ) → Spans low form high → SpanAll low (parts_of form) high → Ranked (found_from call_limits n (calls_of deepest (item_of 1 form)))
-examples_ranked n low form high h parts = by (slice_get (parts_of form) 1) refl
-  where
-    at : (items : List Sexpr) (k low high : ℕ) (item : Sexpr) → Chain Spans low items high → slice_get items k ≡ Some item → (from : ℕ) × (to : ℕ) × Spans from item to
-    at [] k low high item s is = absurd (cc)
-    at (x ∷ xs) zero low high item s is = let same : x ≡ item = cc in (s.0, s.1, subst (λ (f : Sexpr). Spans s.0 f s.1) same s.3)
-    at (x ∷ xs) (suc k) low high item s is = at xs k s.1 high item s.4 is
+-- where the form at this number stands
+span_at : (items : List Sexpr) (k low high : ℕ) (item : Sexpr) → Chain Spans low items high → slice_get items k ≡ Some item → (from : ℕ) × (to : ℕ) × Spans from item to
+span_at [] k low high item s is = absurd (cc)
+span_at (x ∷ xs) zero low high item s is = let same : x ≡ item = cc in (s.0, s.1, subst (λ (f : Sexpr). Spans s.0 f s.1) same s.3)
+span_at (x ∷ xs) (suc k) low high item s is = span_at xs k s.1 high item s.4 is
 
-    by : (o : Option Sexpr) → slice_get (parts_of form) 1 ≡ o → Ranked (found_from call_limits n (calls_of deepest (unwrap_or o form)))
-    by None is = (low, high, faults_from CallPlace call_limits call_order n low (calls_of deepest form) high (calls_chain deepest low form high h))
-    by (Some item) is =
-        let s = at (parts_of form) 1 low high item (spans_chain low (parts_of form) high parts) is in
-        (s.0, s.1, faults_from CallPlace call_limits call_order n s.0 (calls_of deepest item) s.1 (calls_chain deepest s.0 item s.1 s.2))
+-- the form of a constraint's examples stands within some bounds
+pub example_span : (low : ℕ) (form : Sexpr) (high : ℕ) → Spans low form high → (from : ℕ) × (to : ℕ) × Spans from (item_of 1 form) to
+example_span low form high h = by (slice_get (parts_of form) 1) refl
+  where
+    by : (o : Option Sexpr) → slice_get (parts_of form) 1 ≡ o → (from : ℕ) × (to : ℕ) × Spans from (unwrap_or o form) to
+    by None is = (low, high, h)
+    by (Some item) is = span_at (parts_of form) 1 low high item (spans_chain low (parts_of form) high (span_parts low form high h)) is
+
+examples_ranked : (n low : ℕ) (form : Sexpr) (high : ℕ) → Spans low form high → Ranked (found_from call_limits n (calls_of deepest (item_of 1 form)))
+examples_ranked n low form high h =
+    let s = example_span low form high h in
+    (s.0, s.1, faults_from CallPlace call_limits call_order n s.0 (calls_of deepest (item_of 1 form)) s.1 (calls_chain CallPlace span_place deepest s.0 (item_of 1 form) s.1 s.2))
 
 wanted_ranked : (low : ℕ) (form : Sexpr) (high : ℕ) → Command head.SynthFun form → Spans low form high → Ranked (wanted_limits form)
 wanted_ranked low form high c h = by c.others c.is c.fit c.shaped
@@ -351,7 +358,7 @@ limits_ranked s head.SetInfo low form high c span = none_ranked
 limits_ranked s head.DeclareTermTypes low form high c span = terms_ranked (length s.signature.types) (length s.signature.constructors) low form high c span
 limits_ranked s head.DefineFunsRec low form high c span = functions_ranked (length s.signature.relations) (length s.rules) low form high c span
 limits_ranked s head.SynthFun low form high c span = wanted_ranked low form high c span
-limits_ranked s head.Constraint low form high c span = examples_ranked (length s.constraints) low form high span (span_parts low form high span)
+limits_ranked s head.Constraint low form high c span = examples_ranked (length s.constraints) low form high span
 limits_ranked s head.CheckSynth low form high c span = none_ranked
 
 pub ranked_in_order : (faults : List Fault) → Ranked faults → AreInOrder faults

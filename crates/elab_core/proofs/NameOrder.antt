@@ -9,7 +9,7 @@ use Rattle.sig_core.specs.Signatures.{Declarations}
 use Rattle.sig_core.specs.WellFormed.{constructor_names, relation_names}
 use Rattle.sexpr_core.specs.declared.form.Atom.{Atom}
 use Rattle.sexpr_core.specs.declared.form.Nest.{Nest}
-use Rattle.sexpr_core.specs.declared.form.Sexpr.{Sexpr, the_lemmas}
+use Rattle.sexpr_core.specs.declared.form.Sexpr.{Sexpr}
 use Rattle.sexpr_core.specs.declared.form.Sexpr as sexpr
 use Rattle.sexpr_core.specs.Access.{place_of}
 use Rattle.syntax_core.specs.declared.commands.Head.TheVariants as head
@@ -37,11 +37,11 @@ use Rattle.name_core.specs.Names.{are_listed, attribute_names, attributes_of, ca
 use Rattle.elab_core.specs.Places.{places_in}
 use Rattle.elab_core.proofs.Chains.{Chain, InOrder, Such, chain_lower, faults_after, faults_each, nothing, order_joined, order_lower, span_place, spans_chain}
 use Rattle.elab_core.proofs.FormInduction.{by_items}
-use Rattle.elab_core.proofs.FullAtoms.{fit_of}
 use Rattle.elab_core.proofs.InPlaces.{AtomIn, CaseIn, ExpIn, NodeIn, PairIn, PatternIn, exps_chain, pattern_in}
 use Rattle.elab_core.proofs.LimitOrder.{Command, Ranked, functions_in, wider}
 use Rattle.elab_core.proofs.PlacedCommands.{Declared, Defined}
 use Rattle.elab_core.proofs.Rising.{bounds, ordered_if, ordered_joined}
+use Rattle.elab_core.proofs.ShapedForms.{at-Keyword, at-List, at-Symbol, at-Text, fit_of}
 use Rattle.elab_core.proofs.SpelledPlaces.{SpanAll, Spans, level_within}
 
 -- One node.
@@ -80,18 +80,6 @@ names-Negative relations scope n = search (rules, exp_lemmas)
 names-Apply : (relations scope : List (List ℕ)) (app : Application) → expression_names relations scope (exp.Apply app) ≡
     bad_if (not (is_some (operator_named app.head.bytes) || has relations app.head.bytes)) 20 app.head.place ++ flat_map (λ faults. faults) (map (expression_names relations scope) app.args)
 names-Apply relations scope app = search (rules, exp_lemmas)
-
-pub at-Symbol : (a : Atom) → place_of (sexpr.Symbol a) ≡ a.place
-at-Symbol a = search (rules, the_lemmas)
-
-pub at-Text : (a : Atom) → place_of (sexpr.Text a) ≡ a.place
-at-Text a = search (rules, the_lemmas)
-
-pub at-Keyword : (a : Atom) → place_of (sexpr.Keyword a) ≡ a.place
-at-Keyword a = search (rules, the_lemmas)
-
-pub at-List : (n : Nest) → place_of (sexpr.List n) ≡ n.place
-at-List n = search (rules, the_lemmas)
 
 -- the name at the head of a list stands at its first item, or at the list where that is no symbol
 abbrev HeadIn : Sexpr → Type 0

@@ -1,6 +1,6 @@
 -- The wrong names of types, grammars and examples are found from the left, and so those of each command.
-use Rattle.std.proofs.Common.{◌≡◌, ℕ, zero, suc, ◌+◌, ◌<◌, ◌≤◌, Bool, true, false, Option, Some, None, is_some, is_none, List, [], ◌∷◌, ◌++◌, map, slice_get, refl, sym, ap, ◌∙◌, subst, arith}
-use Rattle.std.specs.Prelude.{not, ◌||◌, codes, unwrap_or, if◌then◌else◌}
+use Rattle.std.proofs.Common.{◌≡◌, ℕ, ◌+◌, ◌<◌, ◌≤◌, Bool, true, false, Option, Some, None, is_some, is_none, List, [], ◌∷◌, ◌++◌, map, slice_get, refl, sym, ap, ◌∙◌, subst, arith}
+use Rattle.std.specs.Prelude.{not, ◌||◌, unwrap_or, if◌then◌else◌}
 use Rattle.std.specs.List.{flat_map, zip}
 use Rattle.std.specs.Option.{option_map_or}
 use Rattle.sig_core.specs.Names.{same_name}
@@ -21,19 +21,19 @@ use Rattle.syntax_core.specs.declared.syntax.Pattern.{Pattern}
 use Rattle.syntax_core.specs.Literals.{literal_named}
 use Rattle.syntax_core.specs.Roles.{are_of_command, due_in_command, head_of}
 use Rattle.syntax_core.specs.Shapes.{HasShape, refusal}
-use Rattle.syntax_core.specs.Syntax.{atom_of, begins, call_of, calls_of, deepest, expression_of, items_at, nonterminals_of, pair_of, pattern_of, symbol_of_exp, type_names}
+use Rattle.syntax_core.specs.Syntax.{atom_of, call_of, calls_of, deepest, expression_of, items_at, nonterminals_of, pair_of, pattern_of, symbol_of_exp, type_names}
 use Rattle.syntax_core.proofs.ListExps.{expression-Keyword, expression-Numeral, expression-Symbol, expression-Text, symbol-List, symbol-Numeral, symbol-Symbol}
 use Rattle.name_core.specs.Faults.{bad_if, first, found, shapes}
 use Rattle.name_core.specs.Names.{argument_names, call_names, constructors_in, example_names, group_names, groups_of, has, names, names_in, nonterminal_names, production_names, sort_names, taken_name, texts, types_names, unhad_name, unknown_name, wanted_names}
 use Rattle.name_core.specs.States.{State, Wanted}
 use Rattle.elab_core.specs.Places.{AreInOrder, places_in}
-use Rattle.elab_core.proofs.Chains.{Chain, InOrder, Such, chain_flat, chain_higher, chain_lower, chain_map, faults_after, faults_each, nothing, order_joined, span_others, span_parts, span_place, spans_chain}
+use Rattle.elab_core.proofs.Chains.{Chain, InOrder, Such, chain_flat, chain_higher, chain_lower, chain_map, faults_after, faults_each, nothing, order_joined, span_place}
 use Rattle.elab_core.proofs.FormInduction.{by_items}
-use Rattle.elab_core.proofs.FullAtoms.{false_true, fit_of, listed}
 use Rattle.elab_core.proofs.InPlaces.{AtomIn, ExpIn, PairIn, PatternIn, items_chain, pairs_chain, pattern_in, shape_of_item, three_items}
-use Rattle.elab_core.proofs.LimitOrder.{Command, Ranked, command_of, group_chain, ranked_in_order, role_chain, type_in}
-use Rattle.elab_core.proofs.NameOrder.{at-Keyword, at-Symbol, at-Text, bad_one, bad_within, constructor_order, functions_ranked, list_in, pattern_of_group, taken_order, then_after, unknown_order}
+use Rattle.elab_core.proofs.LimitOrder.{Command, Ranked, calls_chain, command_of, example_span, group_chain, none_ranked, ranked_in_order, role_chain, type_in}
+use Rattle.elab_core.proofs.NameOrder.{bad_one, bad_within, constructor_order, functions_ranked, list_in, pattern_of_group, taken_order, then_after, unknown_order}
 use Rattle.elab_core.proofs.Rising.{bounds}
+use Rattle.elab_core.proofs.ShapedForms.{at-Keyword, at-Symbol, at-Text, false_true, fit_of, listed}
 use Rattle.elab_core.proofs.SpelledPlaces.{Spans, level_within}
 
 -- Types and constructors.
@@ -254,17 +254,6 @@ call_in low form high h =
     let l = list_in (place_of form) (parts_of form) high level.1 in
     (level.0, l.from, l.args)
 
-pub calls_chain : (depth low : ℕ) (form : Sexpr) (high : ℕ) → Spans low form high → Chain CallIn low (calls_of depth form) high
-unfolding calls_of
-calls_chain zero low form high h = (low, high, omega arith, call_in low form high h, omega arith)
-calls_chain (suc depth) low form high h = by (begins (codes "and") form) (λ low form high h. calls_chain depth low form high h)
-  where
-    by : (b : Bool) → ((low : ℕ) (form : Sexpr) (high : ℕ) → Spans low form high → Chain CallIn low (calls_of depth form) high) →
-        Chain CallIn low (if b then flat_map (calls_of depth) (others_of form) else call_of form ∷ []) high
-    by true inner =
-        chain_flat Spans CallIn (calls_of depth) inner low (others_of form) high (spans_chain low (others_of form) high (span_others low (parts_of form) high (span_parts low form high h)))
-    by false inner = (low, high, omega arith, call_in low form high h, omega arith)
-
 -- the examples of a constraint stand within some bounds
 pub record ExamplesIn (form : Sexpr) : Type 0 where
   pub low : ℕ
@@ -272,21 +261,9 @@ pub record ExamplesIn (form : Sexpr) : Type 0 where
   pub calls : Chain CallIn low (calls_of deepest (item_of 1 form)) high
 
 pub examples_in : (low : ℕ) (form : Sexpr) (high : ℕ) → Spans low form high → ExamplesIn form
-examples_in low form high h = by (slice_get (parts_of form) 1) refl
-  where
-    at : (items : List Sexpr) (k low high : ℕ) (item : Sexpr) → Chain Spans low items high → slice_get items k ≡ Some item → (from : ℕ) × (to : ℕ) × Spans from item to
-    at [] k low high item s is = absurd (cc)
-    at (x ∷ xs) zero low high item s is = let same : x ≡ item = cc in (s.0, s.1, subst (λ (f : Sexpr). Spans s.0 f s.1) same s.3)
-    at (x ∷ xs) (suc k) low high item s is = at xs k s.1 high item s.4 is
-
-    by : (o : Option Sexpr) → slice_get (parts_of form) 1 ≡ o → ExamplesIn form
-    by None is =
-        let same : item_of 1 form ≡ form = ap (λ o. unwrap_or o form) is in
-        record { low = low; high = high; calls = subst (λ (f : Sexpr). Chain CallIn low (calls_of deepest f) high) (sym same) (calls_chain deepest low form high h) }
-    by (Some item) is =
-        let s = at (parts_of form) 1 low high item (spans_chain low (parts_of form) high (span_parts low form high h)) is in
-        let same : item_of 1 form ≡ item = ap (λ o. unwrap_or o form) is in
-        record { low = s.0; high = s.1; calls = subst (λ (f : Sexpr). Chain CallIn s.0 (calls_of deepest f) s.1) (sym same) (calls_chain deepest s.0 item s.1 s.2) }
+examples_in low form high h =
+    let s = example_span low form high h in
+    record { low = s.0; high = s.1; calls = calls_chain CallIn call_in deepest s.0 (item_of 1 form) s.1 s.2 }
 
 -- a symbol stands where its form does
 pub symbol_place : (form : Sexpr) (a : Atom) → symbol_of_exp (expression_of form) ≡ Some a → a.place ≡ place_of form
@@ -311,9 +288,6 @@ call_order sig wanted low call high h =
     let a = h.0 in let b = h.1 in
     then_after low (not (has (relation_names sig.relations) call.head.bytes)) 20 call.head (flat_map (argument_names wanted) call.args) high (omega arith) (omega (arith, a, b))
     (faults_each ExpIn (argument_names wanted) (argument_order wanted) (call.head.place + 1) call.args high h.2)
-
-none_ranked : Ranked []
-none_ranked = (0, 0, omega arith)
 
 examples_ranked : (sig : Declarations) (wanted : Option Wanted) (low : ℕ) (form : Sexpr) (high : ℕ) → Spans low form high → Ranked (example_names sig wanted (calls_of deepest (item_of 1 form)))
 examples_ranked sig None low form high h = none_ranked

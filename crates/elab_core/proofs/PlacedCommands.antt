@@ -17,9 +17,9 @@ use Rattle.name_core.specs.Bodies.{Site, sites_of}
 use Rattle.name_core.specs.Names.{attributes_of}
 use Rattle.elab_core.specs.Places.{places_in}
 use Rattle.elab_core.proofs.Chains.{Chain, Such, all_at, chain_flat, chain_higher, chain_joined, chain_lower, chain_map, span_parts, span_place, such_chain}
-use Rattle.elab_core.proofs.FullAtoms.{false_true, fit_of, item_shape, listed, passes_parts}
 use Rattle.elab_core.proofs.InPlaces.{AtomIn, CaseIn, PairIn, atoms_chain, case_in, items_chain, pairs_chain, shape_of_item, three_items}
 use Rattle.elab_core.proofs.Rising.{bounds}
+use Rattle.elab_core.proofs.ShapedForms.{false_true, fit_of, item_shape, listed, passes_parts}
 use Rattle.elab_core.proofs.SpelledPlaces.{Spans}
 
 -- Declarations.

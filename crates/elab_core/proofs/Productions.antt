@@ -3,6 +3,7 @@ use Rattle.std.proofs.Common.{◌≡◌, ◌<◌, ℕ, zero, suc, ◌+◌, Bool,
 use Rattle.std.specs.Prelude.{nat_eq, nat_lt, option_map}
 use Rattle.std.specs.List.{find, flat_map, position_or_len, zip}
 use Rattle.std.specs.Cmp.Lexicographic.{bytes_decides}
+use Rattle.std.proofs.lemmas.Bool.{not-false}
 use Rattle.std.proofs.lemmas.Bool.Decides.{nat_tests}
 use Rattle.std.proofs.lemmas.List.{length-map}
 use Rattle.std.proofs.lemmas.List.Elements.{All-cons, All-head, All-map, All-nil, All-tail, All-weaker}
@@ -35,10 +36,6 @@ use Rattle.elab_core.specs.Making.{production_of}
 use Rattle.elab_core.proofs.Filled.{group_productions}
 use Rattle.elab_core.proofs.Fits.{none-left, none-right, passes}
 use Rattle.elab_core.proofs.Terms.{number_within}
-
-is_not : (b : Bool) → not b ≡ false → b ≡ true
-is_not true h = refl
-is_not false h = absurd (cc)
 
 both_true : (a b : Bool) → a ≡ true → b ≡ true → (a && b) ≡ true
 both_true true b p q = q
@@ -147,7 +144,7 @@ argument_fits : (sig : Declarations) (pairs : List Pair) (c : Constructor) (k : 
 argument_fits sig pairs c k t form at named h =
     let name : List ℕ = (atom_of form).bytes in
     let u : TypeId = get_or (types_of sig pairs) (number_named (names_in pairs) name) no_type in
-    let same : flow.same_type (option_map (λ text. type_named sig text) (sort_of_pair pairs name)) (slice_get c.args k) ≡ true = is_not _ (passes _ 30 (access.place_of form) h) in
+    let same : flow.same_type (option_map (λ text. type_named sig text) (sort_of_pair pairs name)) (slice_get c.args k) ≡ true = not-false _ (passes _ 30 (access.place_of form) h) in
     let one : flow.same_type (Some u) (slice_get c.args k) ≡ true = sym (ap (λ o. flow.same_type o (slice_get c.args k)) (type_at sig pairs name named)) ∙ same in
     let two : nat_eq u.0 t.0 ≡ true = sym (ap (flow.same_type (Some u)) at) ∙ one in
     turned u.0 t.0 two
@@ -192,7 +189,7 @@ production_made sig pairs type form named h =
     let count : length (constructor_names sig.constructors) ≡ length sig.constructors = length-map sig.constructors (λ (c : Constructor). c.name) in
     let many : length (names_in pairs) ≡ length (types_of sig pairs) = length-map pairs (λ (p : Pair). p.name.bytes) ∙ sym (length-map pairs (λ (p : Pair). type_named sig p.sort.bytes)) in
     let test : Bool = not (makes_of_count type (length forms) (constructor_at sig name)) in
-    let made : Made type (length forms) (constructor_at sig name) = made_by type (length forms) (constructor_at sig name) (is_not _ (passes test 30 (access.place_of form) (none-left (bad_if test 30 (access.place_of form)) _ h))) in
+    let made : Made type (length forms) (constructor_at sig name) = made_by type (length forms) (constructor_at sig name) (not-false _ (passes test 30 (access.place_of form) (none-left (bad_if test 30 (access.place_of form)) _ h))) in
     record {
       con = omega (arith, inside, count);
       args = All-map (λ (n : NtId). n.0 < length (types_of sig pairs)) (child pairs) forms

@@ -122,7 +122,7 @@ rules_still sig more rules h = All-weaker (IsSoundRule sig) (IsSoundRule (relate
 
 -- Names.
 
-params_named : (sig : Declarations) (inputs : List sexpr.Atom) (pairs : List Pair) → names_of_params (map (param_of sig inputs) pairs) ≡ names_in pairs
+pub params_named : (sig : Declarations) (inputs : List sexpr.Atom) (pairs : List Pair) → names_of_params (map (param_of sig inputs) pairs) ≡ names_in pairs
 params_named sig inputs [] = refl
 params_named sig inputs (p ∷ ps) = ap (λ names. p.name.bytes ∷ names) (params_named sig inputs ps)
 

@@ -49,6 +49,7 @@ use Rattle.elab_core.proofs.Conjunctions.{IsApart, opened_apart}
 use Rattle.elab_core.proofs.Exprs.{expr-Apply}
 use Rattle.sort_core.proofs.Faultless.{none_both, none_each, none_parts}
 use Rattle.name_core.proofs.Firsts.{first-found_from}
+use Rattle.elab_core.proofs.Relating.{params_named}
 use Rattle.elab_core.proofs.RuleFacts.{AreDeclared, IsDeclared, IsTested, case_made, here, later, rule_fits}
 use Rattle.elab_core.proofs.Smallness.{All-input_args, All-output_args, atom_cases, atoms_each, equation_cases, is_apply, parts_each, parts_in, parts_of_node}
 use Rattle.elab_core.proofs.Weights.{IsLight}
@@ -154,10 +155,6 @@ pub record IsNamed (f : Function) (case : Case) (branch : Branch) : Type 0 where
   pub short : All IsShort (rule_names f case branch)
   pub apart : All IsApart branch.leaf.atoms
 
-param_names : (sig : Declarations) (inputs : List sexpr.Atom) (pairs : List Pair) → names_of_params (map (param_of sig inputs) pairs) ≡ names_in pairs
-param_names sig inputs [] = refl
-param_names sig inputs (p ∷ ps) = ap (λ names. p.name.bytes ∷ names) (param_names sig inputs ps)
-
 var_names : (pairs : List Pair) → map (λ (v : Var). v.name) (map var_of pairs) ≡ names_in pairs
 var_names [] = refl
 var_names (p ∷ ps) = ap (λ names. p.name.bytes ∷ names) (var_names ps)
@@ -185,7 +182,7 @@ rule_sound sig0 sig nodes f relation case d t bound none narrow branch around li
     let made = case_made sig f case none in
     let vars = within (variables_of f case) branch.around in
     let params = ap params_in d.at in
-    let names = ap₂ (λ ps vs. ps ++ texts case.pattern.variables ++ vs) (ap names_of_params params ∙ param_names sig0 f.definition.inputs f.declaration.params) (var_names branch.around) in
+    let names = ap₂ (λ ps vs. ps ++ texts case.pattern.variables ++ vs) (ap names_of_params params ∙ params_named sig0 f.definition.inputs f.declaration.params) (var_names branch.around) in
     let count = ap (λ (ps : List Param). length ps) params ∙ length-map f.declaration.params (param_of sig0 f.definition.inputs) in
     let more = length-map branch.around var_of in
     record {

@@ -3,6 +3,7 @@ use Rattle.std.proofs.Common.{◌≡◌, ℕ, zero, suc, ◌+◌, ◌<◌, Bool,
 use Rattle.std.specs.Prelude.{not, ◌&&◌, ◌||◌, nat_eq, unwrap_or, option_map, option_and_then, All, if◌then◌else◌}
 use Rattle.std.specs.List.{list_all}
 use Rattle.std.specs.Option.{option_map_or, option_flatten}
+use Rattle.std.proofs.lemmas.Bool.{and_parts, or_parts}
 use Rattle.std.proofs.lemmas.Bool.Decides.{nat_tests}
 use Rattle.std.proofs.lemmas.List.{length-map}
 use Rattle.std.proofs.lemmas.List.Elements.{All-nil, All-cons, All-head, All-tail}
@@ -83,14 +84,10 @@ pub full-Apply : (app : Application) →
     is_full (exp.Apply app) ≡ (option_map_or (λ o. takes o (length app.args)) (operator_named app.head.bytes) true && list_all (λ b. b) (map is_full app.args))
 full-Apply app = full-map app ∙ ap (λ n. option_map_or (λ o. takes o n) (operator_named app.head.bytes) true && list_all (λ b. b) (map is_full app.args)) (length-map app.args is_full)
 
-pub both : (a b : Bool) → (a && b) ≡ true → (a ≡ true) × (b ≡ true)
-both true b h = (refl, h)
-both false b h = absurd (cc)
-
 pub all_full : (es : List Exp) → list_all (λ b. b) (map is_full es) ≡ true → All (λ e. is_full e ≡ true) es
 all_full [] h = All-nil (λ e. is_full e ≡ true)
 all_full (e ∷ es) h =
-    let parts = both (is_full e) (list_all (λ b. b) (map is_full es)) h in
+    let parts = and_parts (is_full e) (list_all (λ b. b) (map is_full es)) h in
     All-cons (λ e. is_full e ≡ true) e es parts.0 (all_full es parts.1)
 
 -- The sorts of operands.
@@ -110,15 +107,11 @@ pub record IsPlaced (slots : List Sort) (want : Option Sort) (e : OpenExp) : Typ
   pub placed : (survey slots e).is_misplaced ≡ false
   pub fine : IsFine slots e
 
-neither : (a b : Bool) → (a || b) ≡ false → (a ≡ false) × (b ≡ false)
-neither true b h = absurd (cc)
-neither false b h = (refl, h)
-
 -- what has no fault where a sort is wanted
 pub placed_as : (slots : List Sort) (want : Option Sort) (e : OpenExp) → first (faults_as want (survey slots e)) ≡ None → IsPlaced slots want e
 placed_as slots want e none =
     let parts = none_parts (bad_if (not (same_stated want (survey slots e).stated) || (survey slots e).is_misplaced) 30 (survey slots e).place) (survey slots e).inner none in
-    let test = neither (not (same_stated want (survey slots e).stated)) (survey slots e).is_misplaced (not_bad _ 30 (survey slots e).place parts.0) in
+    let test = or_parts (not (same_stated want (survey slots e).stated)) (survey slots e).is_misplaced (not_bad _ 30 (survey slots e).place parts.0) in
     record { same = is_true (same_stated want (survey slots e).stated) test.0; placed = test.1; fine = parts.1 }
 
 -- operands without faults have these sorts, and each the sort that is wanted of it
@@ -351,7 +344,7 @@ sorted_exp sig vars slots count = by_arguments (λ e. is_full e ≡ true → IsS
         (option_map_or (λ o. takes o (length app.args)) (operator_named app.head.bytes) true && list_all (λ b. b) (map is_full app.args)) ≡ true →
         NodeSorted slots app.place (application_node sig app.head.bytes (map (opened sig vars) app.args))
     application app each full =
-        let parts = both (option_map_or (λ o. takes o (length app.args)) (operator_named app.head.bytes) true) (list_all (λ b. b) (map is_full app.args)) full in
+        let parts = and_parts (option_map_or (λ o. takes o (length app.args)) (operator_named app.head.bytes) true) (list_all (λ b. b) (map is_full app.args)) full in
         let count = sym (length-map app.args (opened sig vars)) in
         sorted_application sig slots app.place app.head.bytes (map (opened sig vars) app.args)
         (subst (λ n. option_map_or (λ o. takes o n) (operator_named app.head.bytes) true ≡ true) count parts.0)

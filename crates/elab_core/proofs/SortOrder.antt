@@ -56,11 +56,12 @@ use Rattle.elab_core.specs.Places.{AreInOrder, places_in}
 use Rattle.elab_core.proofs.Chains.{Chain, InOrder, Such, chain_higher, chain_lower, faults_each, faults_from, nothing, order_joined, order_lower, span_others, span_place, spans_chain}
 use Rattle.elab_core.proofs.FormInduction.{by_items}
 use Rattle.elab_core.proofs.InPlaces.{CaseIn, ExpIn, NodeIn, PairIn}
-use Rattle.elab_core.proofs.LimitOrder.{Command, Ranked, command_of, functions_in, ranked_in_order}
-use Rattle.elab_core.proofs.NameOrder.{at-Keyword, at-List, at-Symbol, at-Text, bad_one, bad_within}
+use Rattle.elab_core.proofs.LimitOrder.{Command, Ranked, command_of, functions_in, none_ranked, ranked_in_order}
+use Rattle.elab_core.proofs.NameOrder.{bad_one, bad_within}
 use Rattle.elab_core.proofs.NamesInOrder.{CallIn, GroupIn, examples_in, group_parts, wanted_in}
 use Rattle.elab_core.proofs.PlacedCommands.{Declared, Defined, atoms_bound}
 use Rattle.elab_core.proofs.Rising.{bounds, ordered_if, ordered_joined}
+use Rattle.elab_core.proofs.ShapedForms.{at-Keyword, at-List, at-Numeral, at-Symbol, at-Text}
 use Rattle.elab_core.proofs.Smallness.{parts_in}
 use Rattle.elab_core.proofs.SortPlaces.{SurveyIn, as_order, bad_first, inner_order, negated_place, open_in}
 use Rattle.elab_core.proofs.SpelledPlaces.{SpanAll, Spans, level_within}
@@ -283,9 +284,6 @@ at_symbol low form a high h at =
     let node = span_place low form high h in let from = node.0 in let to = node.1 in
     digits_by low (exp.Symbol a) high a.place a.place (place-Symbol a) (digits-Symbol a) (omega (arith, at, from)) (omega arith) (omega (arith, at, to))
 
-at-Numeral : (a : Atom) → place_of (sexpr.Numeral a) ≡ a.place
-at-Numeral a = search (rules, sexpr.the_lemmas)
-
 at_list : (low : ℕ) (n : Nest) (high : ℕ) → Spans low (sexpr.List n) high → DigitsIn low (expression_of (sexpr.List n)) high
 at_list low n high h = subst (λ e. DigitsIn low e high) (sym (expression-List n)) (by (negated_numeral (map expression_of n.items)) refl)
   where
@@ -348,9 +346,6 @@ call_order sig wanted type low call high h =
     (bad_one (not (are_of_type type (kinds_named sig call.head.bytes) && nat_eq (length call.args) (length (kinds_named sig call.head.bytes)))) 30 call.place low (omega arith) h.0)
     (order_lower (call.head.place + 1) (call.place + 1) (found_from (example_argument_at wanted (kinds_named sig call.head.bytes)) 0 call.args) high (omega (arith, b))
     (faults_from ExpIn (example_argument_at wanted (kinds_named sig call.head.bytes)) (example_argument_order wanted (kinds_named sig call.head.bytes)) 0 (call.head.place + 1) call.args high h.2))
-
-none_ranked : Ranked []
-none_ranked = (0, 0, omega arith)
 
 examples_ranked : (sig : Declarations) (wanted : Option Wanted) (low : ℕ) (form : Sexpr) (high : ℕ) → Spans low form high → Ranked (examples_faults sig wanted (calls_of deepest (item_of 1 form)))
 examples_ranked sig None low form high h = none_ranked

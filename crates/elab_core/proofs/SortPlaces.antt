@@ -10,7 +10,7 @@ use Rattle.sig_core.specs.Names.{place_of, same_name}
 use Rattle.sig_core.specs.Signatures.{Declarations}
 use Rattle.sexpr_core.specs.declared.form.Atom.{Atom}
 use Rattle.sexpr_core.specs.declared.form.Nest.{Nest}
-use Rattle.sexpr_core.specs.declared.form.Sexpr.{Sexpr, the_lemmas}
+use Rattle.sexpr_core.specs.declared.form.Sexpr.{Sexpr}
 use Rattle.sexpr_core.specs.declared.form.Sexpr as sexpr
 use Rattle.sexpr_core.specs.Access as access
 use Rattle.expr_core.specs.declared.expr.Op.{Op}
@@ -44,13 +44,10 @@ use Rattle.elab_core.proofs.Chains.{Chain, InOrder, chain_lower, nothing, order_
 use Rattle.elab_core.proofs.Counts.{Operation, applied, minus, opened-Apply, opened-Negative, opened-Numeral, opened-Symbol, operation}
 use Rattle.elab_core.proofs.FormInduction.{by_items}
 use Rattle.elab_core.proofs.InPlaces.{ExpIn}
-use Rattle.elab_core.proofs.NameOrder.{at-Keyword, at-List, at-Symbol, at-Text}
 use Rattle.elab_core.proofs.Rising.{Ordered, bounds, ordered_if, ordered_joined, ordered_lower}
+use Rattle.elab_core.proofs.ShapedForms.{at-Keyword, at-List, at-Numeral, at-Symbol, at-Text}
 use Rattle.elab_core.proofs.SpelledPlaces.{SpanAll, Spans, level_within}
 use Rattle.elab_core.proofs.Smallness.{parts_of_node}
-
-at-Numeral : (a : Atom) → access.place_of (sexpr.Numeral a) ≡ a.place
-at-Numeral a = search (rules, the_lemmas)
 
 parts-Slot : (k : ℕ) → parts_of_node (node.Slot k) ≡ []
 parts-Slot k = search (rules, node_lemmas)

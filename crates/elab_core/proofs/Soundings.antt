@@ -4,7 +4,7 @@ use Rattle.std.proofs.Common.{cond}
 use Rattle.std.specs.Prelude.{ℤ, pos, nat_eq, codes, IsTrue}
 use Rattle.std.specs.Option.{option_map_or}
 use Rattle.std.specs.List.{flat_map, list_all}
-use Rattle.std.proofs.lemmas.Bool.{eqb-true}
+use Rattle.std.proofs.lemmas.Bool.{and_parts, eqb-true, not-false}
 use Rattle.std.proofs.lemmas.List.{length-append, length-map}
 use Rattle.std.proofs.lemmas.List.Elements.{All-append, All-cons, All-nil}
 use Rattle.std.proofs.lemmas.Option.{slice_get-get_or}
@@ -48,14 +48,6 @@ use Rattle.sort_core.specs.Sorts.{are_of_type, example_argument, example_argumen
 use Rattle.elab_core.proofs.Fits.{none-left, none-right, passes, within_limit}
 use Rattle.elab_core.proofs.Terms.{number_within}
 
-is_not : (b : Bool) → not b ≡ false → b ≡ true
-is_not true h = refl
-is_not false h = absurd (cc)
-
-both : (a b : Bool) → (a && b) ≡ true → (a ≡ true) × (b ≡ true)
-both true b h = (refl, h)
-both false b h = absurd (cc)
-
 -- A literal of the sort.
 
 same_literal_sort : (s : Sort) (literal : Literal) → same_sort s (sort_of_literal literal) ≡ true → sort_of (value_of_literal literal) ≡ s
@@ -67,7 +59,7 @@ same_literal_sort sort.Bool (Truth b) h = refl
 literal_sort : (s : Sort) (o : Option Literal) → not (option_map_or (λ literal. same_sort s (sort_of_literal literal)) o false) ≡ false →
     sort_of (value_of_literal (unwrap_or o (Truth true))) ≡ s
 literal_sort s None h = absurd (cc)
-literal_sort s (Some literal) h = same_literal_sort s literal (is_not (same_sort s (sort_of_literal literal)) h)
+literal_sort s (Some literal) h = same_literal_sort s literal (not-false (same_sort s (sort_of_literal literal)) h)
 
 argument_sort : (wanted : List ℕ) (s : Sort) (e : Exp) → first (bad_if (not (is_literal_of s e)) 30 (place_of_exp e) ++ range_faults e) ≡ None → sort_of (value_of_argument e) ≡ s
 argument_sort wanted s e h = literal_sort s (literal_of e) (passes (not (is_literal_of s e)) 30 (place_of_exp e) (none-left (bad_if (not (is_literal_of s e)) 30 (place_of_exp e)) (range_faults e) h))
@@ -151,7 +143,7 @@ one_type (Input s ∷ kinds) t h = one_type kinds t h
 one_type (Output s ∷ kinds) t h = one_type kinds t h
 
 same_by : (t u : TypeId) → (nat_eq t.0 u.0 && true) ≡ true → t ≡ u
-same_by t u h = let e : t.0 ≡ u.0 = eqb-true t.0 u.0 (both (nat_eq t.0 u.0) true h).0 in ap (λ n. record { 0 = n }) e
+same_by t u h = let e : t.0 ≡ u.0 = eqb-true t.0 u.0 (and_parts (nat_eq t.0 u.0) true h).0 in ap (λ n. record { 0 = n }) e
 
 type_by : (type t : TypeId) (types : List TypeId) → types ≡ t ∷ [] → list_all (λ u. nat_eq u.0 type.0) types ≡ true → t ≡ type
 type_by type t types e h = same_by t type (sym (ap (list_all (λ u. nat_eq u.0 type.0)) e) ∙ h)
@@ -172,7 +164,7 @@ sound_by : (sig : Declarations) (wanted : List ℕ) (type : TypeId) (kinds : Lis
     (term_type kinds ≡ Some type) × (map sort_of (map value_of_argument (plain_args kinds args)) ≡ plain_sorts kinds)
 sound_by sig wanted type kinds args place t e h =
     let good : (are_of_type type kinds ≡ true) × (nat_eq (length args) (length kinds) ≡ true) =
-    both (are_of_type type kinds) (nat_eq (length args) (length kinds)) (is_not _ (passes _ 30 place (none-left (bad_if (not (are_of_type type kinds && nat_eq (length args) (length kinds))) 30 place) _ h))) in
+    and_parts (are_of_type type kinds) (nat_eq (length args) (length kinds)) (not-false _ (passes _ 30 place (none-left (bad_if (not (are_of_type type kinds && nat_eq (length args) (length kinds))) 30 place) _ h))) in
     let all : AreFrom kinds 0 kinds = λ j. let e : 0 + j ≡ j = omega arith in ap (slice_get kinds) e in (
       typed kinds type t e good.0,
       sorted wanted kinds kinds 0 args all (eqb-true (length args) (length kinds) good.1) (none-right (bad_if (not (are_of_type type kinds && nat_eq (length args) (length kinds))) 30 place) _ h),

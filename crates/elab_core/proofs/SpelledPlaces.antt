@@ -20,6 +20,7 @@ use Rattle.name_core.specs.Faults.{shapes}
 use Rattle.elab_core.specs.Places.{AreInOrder, Rise, places_in}
 use Rattle.elab_core.proofs.FormInduction.{by_items}
 use Rattle.elab_core.proofs.Rising.{Within, bounds, from_lower, in_order, joined, ordered_nodes, parted, rise}
+use Rattle.elab_core.proofs.ShapedForms.{at-Keyword, at-List, at-Numeral, at-Symbol, at-Text}
 
 places-Symbol : (a : Atom) → places_in (sexpr.Symbol a) ≡ a.place ∷ []
 places-Symbol a = search (rules, sexpr.the_lemmas)
@@ -36,21 +37,6 @@ places-Keyword a = search (rules, sexpr.the_lemmas)
 places-Nest : (n : Nest) → places_in (sexpr.List n) ≡ n.place ∷ flat_map (λ places. places) (map places_in n.items)
 places-Nest n = search (rules, sexpr.the_lemmas)
 
-place-Symbol : (a : Atom) → place_of (sexpr.Symbol a) ≡ a.place
-place-Symbol a = search (rules, sexpr.the_lemmas)
-
-place-Numeral : (a : Atom) → place_of (sexpr.Numeral a) ≡ a.place
-place-Numeral a = search (rules, sexpr.the_lemmas)
-
-place-Text : (a : Atom) → place_of (sexpr.Text a) ≡ a.place
-place-Text a = search (rules, sexpr.the_lemmas)
-
-place-Keyword : (a : Atom) → place_of (sexpr.Keyword a) ≡ a.place
-place-Keyword a = search (rules, sexpr.the_lemmas)
-
-place-List : (n : Nest) → place_of (sexpr.List n) ≡ n.place
-place-List n = search (rules, sexpr.the_lemmas)
-
 over_items : (forms : List Sexpr) → flat_map (λ places. places) (map places_in forms) ≡ flat_map places_in forms
 over_items [] = refl
 over_items (form ∷ forms) = ap (λ xs. places_in form ++ xs) (over_items forms)
@@ -64,11 +50,11 @@ leaf_places form place places at parts = places ∙ sym (ap (λ p. p ∷ flat_ma
 -- a form's node, and those of its items
 pub places-is : (form : Sexpr) → places_in form ≡ place_of form ∷ flat_map places_in (parts_of form)
 places-is = by_items (λ form. places_in form ≡ place_of form ∷ flat_map places_in (parts_of form))
-    (λ a. leaf_places (sexpr.Symbol a) a.place (places-Symbol a) (place-Symbol a) (parts-Symbol a))
-    (λ a. leaf_places (sexpr.Numeral a) a.place (places-Numeral a) (place-Numeral a) (parts-Numeral a))
-    (λ a. leaf_places (sexpr.Text a) a.place (places-Text a) (place-Text a) (parts-Text a))
-    (λ a. leaf_places (sexpr.Keyword a) a.place (places-Keyword a) (place-Keyword a) (parts-Keyword a))
-    (λ n all. places-List n ∙ sym (ap (λ p. p ∷ flat_map places_in (parts_of (sexpr.List n))) (place-List n) ∙ ap (λ ps. n.place ∷ flat_map places_in ps) (parts-List n)))
+    (λ a. leaf_places (sexpr.Symbol a) a.place (places-Symbol a) (at-Symbol a) (parts-Symbol a))
+    (λ a. leaf_places (sexpr.Numeral a) a.place (places-Numeral a) (at-Numeral a) (parts-Numeral a))
+    (λ a. leaf_places (sexpr.Text a) a.place (places-Text a) (at-Text a) (parts-Text a))
+    (λ a. leaf_places (sexpr.Keyword a) a.place (places-Keyword a) (at-Keyword a) (parts-Keyword a))
+    (λ n all. places-List n ∙ sym (ap (λ p. p ∷ flat_map places_in (parts_of (sexpr.List n))) (at-List n) ∙ ap (λ ps. n.place ∷ flat_map places_in ps) (parts-List n)))
 
 -- the nodes of a form stand within these bounds
 abbrev pub Spans : ℕ → Sexpr → ℕ → Type 0

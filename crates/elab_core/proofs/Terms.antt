@@ -79,7 +79,7 @@ few n form h = few_by n form (is_some (symbol_of form)) refl h
 
 -- A constructor is accepted.
 
-accepted_by : (a b c : Bool) (e f g : SigError) → a ≡ false → b ≡ true → c ≡ false →
+pub accepted_by : (a b c : Bool) (e f g : SigError) → a ≡ false → b ≡ true → c ≡ false →
     (if a then Some e else if b then (if c then Some f else None) else Some g) ≡ None
 accepted_by true b c e f g p q r = absurd (cc)
 accepted_by false false c e f g p q r = absurd (cc)

@@ -23,6 +23,7 @@ use Rattle.elab_core.proofs.BranchWidths.{All-flat_map}
 use Rattle.name_core.proofs.Branchings.{branches-Leaf, branches-Fork}
 use Rattle.elab_core.proofs.Counts.{count-Apply, count-Negative, count-Numeral, count-Symbol, exp_count, sum-first}
 use Rattle.elab_core.proofs.FormInduction.{by_items}
+use Rattle.elab_core.proofs.ShapedForms.{parts-Keyword, parts-List, parts-Numeral, parts-Symbol, parts-Text, read-Keyword, read-List, read-Numeral, read-Symbol, read-Text}
 
 -- how many nodes expressions have
 abbrev pub weight : List Exp → ℕ
@@ -56,21 +57,6 @@ one-Text a = search (rules, the_lemmas)
 one-Keyword : (a : Atom) → node_count (sexpr.Keyword a) ≡ 1
 one-Keyword a = search (rules, the_lemmas)
 
-parts-List : (n : Nest) → parts_of (sexpr.List n) ≡ n.items
-parts-List n = search (rules, the_lemmas)
-
-parts-Symbol : (a : Atom) → parts_of (sexpr.Symbol a) ≡ []
-parts-Symbol a = search (rules, the_lemmas)
-
-parts-Numeral : (a : Atom) → parts_of (sexpr.Numeral a) ≡ []
-parts-Numeral a = search (rules, the_lemmas)
-
-parts-Text : (a : Atom) → parts_of (sexpr.Text a) ≡ []
-parts-Text a = search (rules, the_lemmas)
-
-parts-Keyword : (a : Atom) → parts_of (sexpr.Keyword a) ≡ []
-parts-Keyword a = search (rules, the_lemmas)
-
 nodes_sum : (forms : List Sexpr) → nodes forms ≡ sum (map node_count forms)
 nodes_sum [] = refl
 nodes_sum (form ∷ forms) =
@@ -102,21 +88,6 @@ others_count : (form : Sexpr) → nodes (others_of form) ≤ node_count form
 others_count form = let few = few_parts form in let rest = rest_count (parts_of form) in omega (arith, few, rest)
 
 -- Expressions.
-
-read-Symbol : (a : Atom) → expression_of (sexpr.Symbol a) ≡ exp.Symbol a
-read-Symbol a = search (rules, the_lemmas)
-
-read-Numeral : (a : Atom) → expression_of (sexpr.Numeral a) ≡ exp.Numeral a
-read-Numeral a = search (rules, the_lemmas)
-
-read-Text : (a : Atom) → expression_of (sexpr.Text a) ≡ exp.Symbol a
-read-Text a = search (rules, the_lemmas)
-
-read-Keyword : (a : Atom) → expression_of (sexpr.Keyword a) ≡ exp.Symbol a
-read-Keyword a = search (rules, the_lemmas)
-
-read-List : (n : Nest) → expression_of (sexpr.List n) ≡ expression_of_nest (record { place = n.place; items = map expression_of n.items })
-read-List n = search (rules, the_lemmas)
 
 read_items : (forms : List Sexpr) → All (λ form. exp_count (expression_of form) ≤ node_count form) forms → weight (map expression_of forms) ≤ nodes forms
 read_items [] h = omega arith

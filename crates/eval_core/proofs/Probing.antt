@@ -2,7 +2,7 @@
 use Rattle.std.proofs.Common.{◌≡◌, ◌<◌, ◌+◌, inl, inr, ℕ, zero, suc, Bool, true, false, ◌&&◌, cond, Some, List, [], ◌∷◌, map, filter, length, slice_index_or, All, Contains, refl, sym, ap, ap₂, ◌∙◌, subst, arith, eq-eqb}
 use Rattle.std.specs.List.{flat_map}
 use lib.Pointwise.{pointwise}
-use Rattle.std.proofs.lemmas.Bool.{cases_lt}
+use Rattle.std.proofs.lemmas.Bool.{and_parts, cases_lt}
 use Rattle.std.proofs.lemmas.List.Elements.{All-nil, All-append, All-map, All-filter, filter_passes, Contains-get_or, Contains-append_left, Contains-append_right}
 use Rattle.std.proofs.lemmas.Option.{none-some, slice_get_past}
 use Rattle.sig_core.specs.declared.value.Value.{Value}
@@ -17,7 +17,7 @@ use Rattle.problem_core.specs.declared.parts.Constraint.{Constraint}
 use Rattle.problem_core.specs.Problems.{Parts}
 use Rattle.eval_core.specs.Marks.{Probe, IsProbe, AreProbes, fits_probe, all_probes, probes_of}
 use Rattle.eval_core.proofs.Handed.{same_type_is}
-use Rattle.eval_core.proofs.Inputs.{both, same_sort_is}
+use Rattle.eval_core.proofs.Inputs.{same_sort_is}
 use Rattle.eval_core.specs.Alikeness.{example_of}
 
 pub Contains-map : {X Y : Type 0} (f : X → Y) (xs : List X) (y : Y) → Contains (map f xs) y → (x : X) × Contains xs x × (f x ≡ y)
@@ -63,7 +63,7 @@ sorts_by_test [] [] h = refl
 sorts_by_test [] (s ∷ ss) h = absurd cc
 sorts_by_test (v ∷ vs) [] h = absurd cc
 sorts_by_test (v ∷ vs) (s ∷ ss) h =
-    let p = both (same_sort (sort_of v) s) (pointwise (λ v s. same_sort (sort_of v) s) vs ss) h in
+    let p = and_parts (same_sort (sort_of v) s) (pointwise (λ v s. same_sort (sort_of v) s) vs ss) h in
     ap₂ (λ x xs. x ∷ xs) (same_sort_is (sort_of v) s p.0) (sorts_by_test vs ss p.1)
 
 same_sort_itself : (s : Sort) → same_sort s s ≡ true
@@ -99,7 +99,7 @@ module _ (problem : Parts) (type : TypeId) where
   by_test probe example h =
       let kinds = kinds_of problem.signature probe.relation in
       let wanted = inputs_of kinds (plain_sorts kinds) in
-      let p = both (same_type (term_type kinds) (Some type)) (pointwise (λ v s. same_sort (sort_of v) s) probe.inputs wanted) h in
+      let p = and_parts (same_type (term_type kinds) (Some type)) (pointwise (λ v s. same_sort (sort_of v) s) probe.inputs wanted) h in
       let typed = same_type_is (term_type kinds) (Some type) p.0 in
       record { typed = typed.1 ∙ sym typed.2; example = example; sorted = sorts_by_test probe.inputs wanted p.1 }
 

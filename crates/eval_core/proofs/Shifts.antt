@@ -45,7 +45,7 @@ x_gives : (h n : ℕ) → list_all is_value (int n ∷ int n ∷ []) ≡ true �
 x_gives h n small = follows shifts shift_problem.rules (Within shifts shift_problem.rules h) gives x_con [] 0 x_rule (int n ∷ int n ∷ []) refl
     (record { sorted = refl; in_range = small; holds = All-from_recursion (Holds (int n ∷ int n ∷ [])) x_rule.atoms ((int n, refl, value-Slot (int n ∷ int n ∷ []) 0), tt) }) tt
 
-only_one : (a rule : Rule) (n : ℕ) → slice_get (a ∷ []) n ≡ Some rule → a ≡ rule
+pub only_one : (a rule : Rule) (n : ℕ) → slice_get (a ∷ []) n ≡ Some rule → a ≡ rule
 only_one a rule zero e = same_Some a rule e
 only_one a rule (suc n) e = absurd (none-some rule e)
 

@@ -1,16 +1,15 @@
 -- Terms with the same outputs at other heights are not alike.
-use Rattle.std.proofs.Common.{◌≡◌, ℕ, zero, suc, Some, [], ◌∷◌, slice_get, All, refl, sym, ◌∙◌, subst, arith}
+use Rattle.std.proofs.Common.{◌≡◌, [], ◌∷◌, All, refl, sym, ◌∙◌, subst, arith}
 use Rattle.std.proofs.lemmas.List.Elements.{All-head, All-from_recursion}
-use Rattle.std.proofs.lemmas.Option.{same_Some, none-some}
 use Rattle.expr_core.proofs.Equations.{value-Slot}
 use Rattle.term_core.specs.declared.tree.Tree.{Tree}
-use Rattle.rule_core.specs.declared.rule.Rule.{Rule}
 use Rattle.rule_core.specs.Instances.{Holds, Fact, calls_of}
 use Rattle.problem_core.specs.Derivations.{Within, CallMeets}
 use Rattle.problem_core.proofs.Nodes.{follows, listed-node}
 use Rattle.eval_core.specs.ShiftExample.{expression, int}
 use Rattle.eval_core.specs.SlowExample.{slow_con, fast_con, semantics, helper, speeds, call_helper, slow_rule, fast_rule, helper_rule, speed_problem, slow, fast}
 use Rattle.eval_core.specs.Alikeness.{IsAlike}
+use Rattle.eval_core.proofs.Shifts.{only_one}
 
 abbrev pub gives_four : Tree → Fact
 gives_four t = record { relation = semantics; term = t; args = int 4 ∷ int 4 ∷ [] }
@@ -27,10 +26,6 @@ pub slow_within : Within speeds speed_problem.rules 2 (gives_four slow)
 slow_within = follows speeds speed_problem.rules (Within speeds speed_problem.rules 1) semantics slow_con [] 0 slow_rule (int 4 ∷ int 4 ∷ int 4 ∷ []) refl
     (record { sorted = refl; in_range = refl; holds = All-from_recursion (Holds (int 4 ∷ int 4 ∷ int 4 ∷ [])) slow_rule.atoms (tt, ((int 4, refl, value-Slot (int 4 ∷ int 4 ∷ int 4 ∷ []) 2), tt)) })
     ((record { relation = helper; term = slow; args = int 4 ∷ int 4 ∷ [] }, simp value-Slot, helper_within), tt)
-
-only_one : (a rule : Rule) (n : ℕ) → slice_get (a ∷ []) n ≡ Some rule → a ≡ rule
-only_one a rule zero e = same_Some a rule e
-only_one a rule (suc n) e = absurd (none-some rule e)
 
 not_at_once : ¬ Within speeds speed_problem.rules 1 (gives_four slow)
 not_at_once d =

@@ -14,7 +14,7 @@ use Rattle.term_core.specs.declared.ids.TermId.{TermId}
 use Rattle.term_core.specs.declared.tree.Tree.{Tree}
 use Rattle.term_core.specs.Banks.{EachOnce, IsLive, tree_of}
 use Rattle.rule_core.specs.Instances.{param_values}
-use Rattle.rule_core.proofs.Determined.{and_both}
+use Rattle.rule_core.proofs.Determined.{and_both, mapped_some}
 use Rattle.deriv_core.specs.declared.parts.Fact.{Fact}
 use Rattle.deriv_core.specs.declared.parts.Step.{Step}
 use Rattle.deriv_core.specs.contracts.parts.FactPartialEq.TheImpl.{ghosts as fact_equality}
@@ -23,7 +23,7 @@ use Rattle.deriv_core.specs.Steps.{step_fact, tree_step, tree_steps}
 use Rattle.extract_core.specs.Additions.{HasFact}
 use Rattle.extract_core.specs.Lookups.{LacksFact}
 use Rattle.extract_core.specs.Places.{ArePlaces, IsPut, fact_of}
-use Rattle.extract_core.proofs.Listing.{get_front, get_last, mapped_at, push_cases}
+use Rattle.extract_core.proofs.Listing.{get_front, get_last, push_cases}
 use Rattle.extract_core.proofs.ValueEq.{value_eq-Decides}
 
 abbrev fact_with : RelId → TermId → List Value → Fact
@@ -65,7 +65,7 @@ module _ (sig : Declarations) (steps : List Step) (step : Step) (old new : Fact 
       ap (λ k. option_map (fact_of sig) (slice_get (steps ++ step ∷ []) k)) (sym (same_Some (length steps) n e))
       ∙ ap (option_map (fact_of sig)) (get_last steps step) ∙ ap Some (same_fact (fact_of sig step) fact same)
   sound_at fact n false other e =
-      let m = mapped_at (fact_of sig) (slice_get steps n) fact (places.sound fact n e) in
+      let m = mapped_some (fact_of sig) (slice_get steps n) fact (places.sound fact n e) in
       ap (option_map (fact_of sig)) (get_front steps (step ∷ []) n m.0 m.1) ∙ ap Some m.2
 
   there_at : (fact : Fact) (b : Bool) → fact_equality.eq (fact_of sig step) fact ≡ b → (b ≡ false → ¬ (old fact ≡ None)) → ¬ ((if b then Some (length steps) else old fact) ≡ None)
@@ -98,13 +98,13 @@ module _ (sig : Declarations) (bank : List Tree) (once : EachOnce bank) (steps :
     (number_of : Fact → Option ℕ) (places : ArePlaces sig steps number_of) (fact : Fact) (fact_live : IsLive bank fact.node) where
   pub found_has : (n : ℕ) → Some n ≡ number_of fact → HasFact sig (tree_steps bank steps) n (tree_fact bank fact)
   found_has n e =
-      let m = mapped_at (fact_of sig) (slice_get steps n) fact (places.sound fact n (sym e)) in
+      let m = mapped_some (fact_of sig) (slice_get steps n) fact (places.sound fact n (sym e)) in
       ap (option_map (step_fact sig)) (slice_get-map (tree_step bank) steps n ∙ ap (option_map (tree_step bank)) m.1) ∙ ap (λ f. Some (tree_fact bank f)) m.2
 
   pub none_lacks : None ≡ number_of fact → LacksFact sig (tree_steps bank steps) (tree_fact bank fact)
   none_lacks none k has =
-      let t = mapped_at (step_fact sig) (slice_get (tree_steps bank steps) k) (tree_fact bank fact) has in
-      let s = mapped_at (tree_step bank) (slice_get steps k) t.0 (sym (slice_get-map (tree_step bank) steps k) ∙ t.1) in
+      let t = mapped_some (step_fact sig) (slice_get (tree_steps bank steps) k) (tree_fact bank fact) has in
+      let s = mapped_some (tree_step bank) (slice_get steps k) t.0 (sym (slice_get-map (tree_step bank) steps k) ∙ t.1) in
       let step = s.0 in
       let whole : step_fact sig (tree_step bank step) ≡ tree_fact bank fact = ap (step_fact sig) s.2 ∙ t.2 in
       let step_live : IsLive bank step.node = All-contains (λ (x : Step). IsLive bank x.node) steps step live (k, slice_get_within steps k step s.1, get_or_from_slice_get steps k step step s.1) in

@@ -13,10 +13,11 @@ use Rattle.problem_core.specs.declared.parts.Constraint.{Constraint}
 use Rattle.problem_core.specs.Derivations.{Within}
 use Rattle.problem_core.specs.Problems.{Parts, Solves, fact_on}
 use Rattle.problem_core.specs.Soundness.{IsSound, IsSoundConstraint, wanted_type}
+use Rattle.rule_core.proofs.Determined.{outputs-map}
 use Rattle.problem_core.proofs.Heights.{Within-rises}
 use Rattle.eval_core.specs.declared.outcome.Outcome.{Outcome}
 use Rattle.eval_core.specs.Outcomes.{AreOutcomes, AreOutputs, IsOutcome, fact_with}
-use Rattle.eval_core.proofs.Inputs.{inputs-map, outputs-map, woven-parts}
+use Rattle.eval_core.proofs.Inputs.{inputs-map, woven-parts}
 use Rattle.solve_core.specs.declared.example.Example.{Example}
 use Rattle.solve_core.specs.Examples.{as_example, examples_of, HoldsOn, IsExampleOf}
 

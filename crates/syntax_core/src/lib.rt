@@ -26,8 +26,8 @@ pub use fault::Fault;
 pub use functions::functions_of;
 pub use grammars::{constructors_in, nonterminals_of, type_names};
 pub use literal::{
-    Literal, digits_place, is_out_of_range, literal_named, literal_of, negative,
-    place_of_exp, positive, sort_of_literal,
+    Literal, digits_place, is_out_of_range, literal_named, literal_of, negative, place_of_exp,
+    positive, sort_of_literal,
 };
 pub use reading::{atom_of, name_of, pair_of, pairs_of, symbols_of};
 pub use roles::{Due, Role};
