@@ -1,5 +1,6 @@
 //! Words of `check`, files that are absent, and calls that fail.
-use crate::texts::{TINY, TINY_ANSWER, expect, files_of};
+use crate::texts::{expect, files_of};
+use example_files::{TINY, TINY_ANSWER};
 use semgus_app::{Fault, Status, Which};
 use std::test::Fail;
 

@@ -1,26 +1,10 @@
 //! A line for each kind of answer file.
-use crate::texts::{TINY, TINY_ANSWER, expect, files_of};
+use crate::texts::{expect, files_of};
+use example_files::{TINY, TINY_ANSWER, TINY_EMPTY, TWICE};
 use semgus_app::{AnswerFault, BadStep, Fault, Flaw, Status, Which};
 use std::alloc::AllocError;
 use std::process::Abort;
 use std::test::Fail;
-
-/// No term is in the language.
-const TINY_WITHOUT_TERMS: &str = "(declare-term-types ((E 0)) (($a)))
-(define-funs-rec ((S ((t E) (r Int)) Bool)) ((! (match t (($a (= r 1)))) :input () :output (r))))
-(synth-fun f () E ((A E)) ((A E ())))
-(constraint (S f 1))
-(check-synth)
-";
-
-/// One constructor gives two numbers, and both are asked for.
-const TWICE: &str = "(declare-term-types ((E 0)) (($c)))
-(define-funs-rec ((S ((t E) (r Int)) Bool)) ((! (match t (($c (= r 0)) ($c (= r 1)))) :input () :output (r))))
-(synth-fun f () E)
-(constraint (S f 0))
-(constraint (S f 1))
-(check-synth)
-";
 
 /// Answers to tiny.sl.
 const VALID: [&str; 2] = [
@@ -172,7 +156,7 @@ fn lexical_faults_are_refused(rt: HostRuntime) -> Result<(), Fail> {
 #[test]
 fn a_term_out_of_the_language_is_invalid(rt: HostRuntime) -> Result<(), Fail> {
     let status = Status::Invalid(Flaw::Grammar);
-    check_one(&rt, TINY_WITHOUT_TERMS, TINY_ANSWER, status, "invalid 4\n")?;
+    check_one(&rt, TINY_EMPTY, TINY_ANSWER, status, "invalid 4\n")?;
     Ok(())
 }
 

@@ -1,5 +1,6 @@
 //! Answer files of the greatest length, and of one byte more.
-use crate::texts::{TINY, expect, files_of};
+use crate::texts::{expect, files_of};
+use example_files::TINY;
 use semgus_app::{AnswerFault, Fault, Flaw, Status, Which};
 use std::test::Fail;
 

@@ -1,5 +1,6 @@
 //! Canonical texts of problems.
-use crate::texts::{TINY, expect, files_of};
+use crate::texts::{expect, files_of};
+use example_files::{SPELLED, SPELLED_AGAIN, TINY};
 use semgus_app::{Fault, Status, Which};
 use std::test::Fail;
 
@@ -10,29 +11,13 @@ const TINY_SHOWN: &str = "(declare-term-types ((E 0)) (($a)))
 (check-synth)
 ";
 
-/// A problem in an unusual spelling.
-const SPELLED: &str = "(declare-term-types ((E 0)) ((($x) |$k|)))
-(define-funs-rec ((S ((t E) (x Int) (r Int)) Bool))
- ((! (match t (((|$x|) (= x r)) ($k (= r -4)))) :output (r) :input (x))))
-(synth-fun f () E)
-(constraint (S f -4 (- 4))) ; one example
-(check-synth)
-";
-
-const SPELLED_SHOWN: &str = "(declare-term-types ((E 0)) (($x $k)))
-(define-funs-rec ((S ((t E) (x Int) (r Int)) Bool)) ((! (match t (($x (and (= r x))) ($k (and (= r (- 4)))))) :input (x) :output (r))))
-(synth-fun f () E)
-(constraint (S f (- 4) (- 4)))
-(check-synth)
-";
-
 #[test]
 fn problems_are_shown(rt: HostRuntime) -> Result<(), Fail> {
     for (problem, text) in [
         (TINY, TINY_SHOWN),
         (TINY_SHOWN, TINY_SHOWN),
-        (SPELLED, SPELLED_SHOWN),
-        (SPELLED_SHOWN, SPELLED_SHOWN),
+        (SPELLED, SPELLED_AGAIN),
+        (SPELLED_AGAIN, SPELLED_AGAIN),
     ] {
         let mut files = files_of(&rt, problem, b"")?;
         expect(&rt, "show problem", &mut files, Status::Shown, text)?;
@@ -53,5 +38,13 @@ fn a_refused_problem_is_not_shown(rt: HostRuntime) -> Result<(), Fail> {
     );
     expect(&rt, "show answer", &mut files, status, "refused 0 60\n")?;
     expect(&rt, "show", &mut files, Status::BadWords, "bad words\n")?;
+    Ok(())
+}
+
+#[test]
+fn an_absent_problem_is_not_shown(rt: HostRuntime) -> Result<(), Fail> {
+    let mut files = files_of(&rt, TINY, b"")?;
+    let status = Status::CannotOpen;
+    expect(&rt, "show none", &mut files, status, "cannot open none\n")?;
     Ok(())
 }

@@ -1,6 +1,6 @@
 //! What `solve` prints is a valid answer.
-use crate::maximum::MAXIMUM;
-use crate::texts::{TINY, expect, files_of, words_of};
+use crate::texts::{expect, files_of, words_of};
+use example_files::{MAX2, TINY};
 use semgus_app::{Status, run};
 use semgus_io::{MemoryFiles, MemorySink};
 use std::alloc::AllocError;
@@ -23,7 +23,7 @@ fn files_solved(
 fn printed_answers_are_valid(rt: HostRuntime) -> Result<(), Fail> {
     for (problem, solve, check) in [
         (TINY, "solve problem 1 1", "check problem answer 1"),
-        (MAXIMUM, "solve problem 3 6", "check problem answer 3"),
+        (MAX2, "solve problem 3 6", "check problem answer 3"),
     ] {
         let mut files = files_solved(&rt, problem, solve)?;
         expect(&rt, check, &mut files, Status::Valid, "valid\n")?;

@@ -4,21 +4,6 @@ use semgus_io::{MemoryFiles, MemorySink, Words};
 use std::alloc::AllocError;
 use std::process::Abort;
 
-pub const TINY: &str = "(declare-term-types ((E 0)) (($a)))
-(define-funs-rec ((S ((t E) (r Int)) Bool)) ((! (match t (($a (= r 1)))) :input () :output (r))))
-(synth-fun f () E)
-(constraint (S f 1))
-(check-synth)
-";
-
-pub const TINY_ANSWER: &str = "(answer 1)
-(term $a)
-(size 1)
-(node 0 $a)
-(step 0 S 0 0 (1) ())
-(derived 0 0)
-";
-
 /// The words of a line, which are parted by single spaces.
 pub fn words_of(rt: &impl AllocGlobal, line: &str) -> Result<Words, AllocError> {
     let mut words = Words::new(rt.alloc());

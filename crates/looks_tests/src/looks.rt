@@ -1,5 +1,5 @@
-use crate::files::{DBL_MIN, LEAST, LOOP, MANY, MAX2, PICK, SHIFT, SLOW, TINY, TWICE};
 use crate::searching::{Searched, search_of_text};
+use example_files::{DBL_MIN, LEAST, LOOP, MANY, MAX2, PICK, SHIFT, SLOW, TINY, TWICE};
 use std::alloc::{AllocError, Global};
 use std::process::Abort;
 use std::test::Fail;

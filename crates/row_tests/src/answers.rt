@@ -1,25 +1,5 @@
 //! Answer texts that are due.
 
-/// Of the greater of two numbers.
-pub(crate) const MAX2: &str = "(answer 1)
-(term ($ite ($< $x $y) $y $x))
-(size 6)
-(node 0 $x)
-(node 1 $y)
-(node 2 $< 0 1)
-(node 3 $ite 2 1 0)
-(step 0 E.Sem 0 0 (4 2 4) ())
-(step 1 E.Sem 1 0 (4 2 2) ())
-(step 2 B.Sem 2 0 (4 2 false 4 2) (0 1))
-(step 3 E.Sem 3 0 (4 2 4 false 2 4) (2 1 0))
-(step 4 E.Sem 0 0 (2 5 2) ())
-(step 5 E.Sem 1 0 (2 5 5) ())
-(step 6 B.Sem 2 0 (2 5 true 2 5) (4 5))
-(step 7 E.Sem 3 0 (2 5 5 true 5 2) (6 5 4))
-(derived 0 3)
-(derived 1 7)
-";
-
 /// Of the first term, where there are no examples.
 pub(crate) const FIRST: &str = "(answer 1)
 (term $x)
@@ -89,15 +69,6 @@ pub(crate) const PICK: &str = "(answer 1)
 (step 0 T 0 1 (1) ())
 (step 1 S 0 0 (0 1) (0))
 (derived 0 1)
-";
-
-/// Of a grammar with a production twice.
-pub(crate) const TINY: &str = "(answer 1)
-(term $a)
-(size 1)
-(node 0 $a)
-(step 0 S 0 0 (1) ())
-(derived 0 0)
 ";
 
 /// Of rules that are numbered in the order of their leaves.

@@ -1,5 +1,5 @@
-use crate::files::MAX2;
 use crate::running::{check_over, file_of, words_of};
+use example_files::MAX2;
 use semgus_app::{Status, run};
 use semgus_io::MemorySink;
 use std::alloc::{AllocError, Global};

@@ -1,9 +1,11 @@
 use crate::answers;
-use crate::files::{
-    DBL_MAX, DBL_MIN, LEAST, MANY, MAX2, MAX2_FREE, PICK, SHIFT, SLOW, TINY_EMPTY, TINY_TWICE,
-};
+use crate::files::{DBL_MAX, TINY_TWICE};
 use crate::running::{check, check_over, file_of};
+use example_files::{
+    DBL_MIN, LEAST, MANY, MAX2, MAX2_ANSWER, PICK, SHIFT, SLOW, TINY_ANSWER, TINY_EMPTY,
+};
 use semgus_app::Status;
+use std::alloc::{AllocError, Global};
 use std::test::Fail;
 
 #[test]
@@ -14,7 +16,7 @@ fn max2_at_height_3_and_size_6(rt: HostRuntime) -> Result<(), Fail> {
         "solve p.sl 3 6",
         MAX2,
         Status::Found,
-        answers::MAX2,
+        MAX2_ANSWER,
     )?;
     Ok(())
 }
@@ -27,7 +29,7 @@ fn max2_with_the_bounds_that_are_usual(rt: HostRuntime) -> Result<(), Fail> {
         "solve p.sl",
         MAX2,
         Status::Found,
-        answers::MAX2,
+        MAX2_ANSWER,
     )?;
     Ok(())
 }
@@ -40,17 +42,42 @@ fn max2_below_its_height_or_its_size(rt: HostRuntime) -> Result<(), Fail> {
     Ok(())
 }
 
+/// The file without its examples, each of which stands on a line of its own.
+fn without_examples(alloc: Global, file: &str) -> Result<String, AllocError> {
+    let mut rest = String::new(alloc);
+    for line in file.lines() {
+        if !line.starts_with("(constraint ") {
+            rest.push_str(line)?;
+            rest.push('\n')?;
+        }
+    }
+    Ok(rest)
+}
+
+#[test]
+fn the_first_term_where_there_are_no_examples(rt: HostRuntime) -> Result<(), Fail> {
+    let file = without_examples(rt.alloc(), MAX2)?;
+    check(
+        &rt,
+        rt.alloc(),
+        "solve p.sl 1 1",
+        file.as_str(),
+        Status::Found,
+        answers::FIRST,
+    )?;
+    Ok(())
+}
+
 /// Files and bounds with the answers that are due.
-const FOUND: [(&str, &str, &str); 9] = [
-    ("solve p.sl 1 1", MAX2_FREE, answers::FIRST),
+const FOUND: [(&str, &str, &str); 8] = [
     ("solve p.sl 4 4", DBL_MIN, answers::DBL_MIN),
     ("solve p.sl 2 2", SHIFT, answers::SHIFT),
     ("solve p.sl 2 2", SLOW, answers::FAST),
     ("solve p.sl 3 2", SLOW, answers::SLOW),
     ("solve p.sl 1 1", LEAST, answers::LEAST),
     ("solve p.sl 2 1", PICK, answers::PICK),
-    ("solve p.sl 1 1", TINY_TWICE, answers::TINY),
-    ("solve p.sl 1000 40", TINY_TWICE, answers::TINY),
+    ("solve p.sl 1 1", TINY_TWICE, TINY_ANSWER),
+    ("solve p.sl 1000 40", TINY_TWICE, TINY_ANSWER),
 ];
 
 #[test]
@@ -132,7 +159,7 @@ fn max2_in_pieces(rt: HostRuntime) -> Result<(), Fail> {
             "solve p.sl 3 6",
             &mut files,
             Status::Found,
-            answers::MAX2,
+            MAX2_ANSWER,
         )?;
     }
     Ok(())

@@ -1,24 +1,9 @@
 use crate::judging::printed;
+use example_files::{SPELLED, SPELLED_AGAIN};
 use sig_core::Bytes;
 use std::alloc::{AllocError, Global};
 use std::process::Abort;
 use std::test::Fail;
-
-/// An equation whose variable stands on the right, negative literals in three spellings, attributes in the other order.
-const SPELLED: &str = "(declare-term-types ((E 0)) ((($x) |$k|)))
-(define-funs-rec ((S ((t E) (x Int) (r Int)) Bool))
- ((! (match t (((|$x|) (= x r)) ($k (= r -4)))) :output (r) :input (x))))
-(synth-fun f () E)
-(constraint (S f -4 (- 4))) ; one example
-(check-synth)
-";
-
-const SPELLED_AGAIN: &str = "(declare-term-types ((E 0)) (($x $k)))
-(define-funs-rec ((S ((t E) (x Int) (r Int)) Bool)) ((! (match t (($x (and (= r x))) ($k (and (= r (- 4)))))) :input (x) :output (r))))
-(synth-fun f () E)
-(constraint (S f (- 4) (- 4)))
-(check-synth)
-";
 
 /// Infos after other commands, branches, existentials in two lists, a grammar of its own, calls taken apart.
 const NESTED: &str = "(declare-term-types ((E 0)) (($0 $x ($+ E E))))
@@ -74,6 +59,36 @@ const NAMED_AGAIN: &str = "(declare-term-types ((|e e| 0)) ((a (b |e e|))))
 (check-synth)
 ";
 
+/// A type named as a constructor, and the whole grammar.
+const TYPE_AND_CONSTRUCTOR: &str = "(declare-term-types ((E 0)) ((E)))
+(synth-fun f () E)
+(check-synth)
+";
+
+/// The productions of the whole grammar in another order.
+const REORDERED: &str = "(declare-term-types ((E 0)) ((a b)))
+(synth-fun f () E ((E E)) ((E E (b a))))
+(check-synth)
+";
+
+/// An info without value alone, and the least number.
+const LEAST_NUMBER: &str = "(set-info :unused)
+(declare-term-types ((E 0)) ((a)))
+(define-funs-rec ((S ((t E) (r Int)) Bool))
+ ((! (match t ((a (= r -170141183460469231731687303715884105728)))) :input () :output (r))))
+(synth-fun f () E)
+(constraint (S f -170141183460469231731687303715884105728))
+(check-synth)
+";
+
+const LEAST_NUMBER_AGAIN: &str = "(set-info :unused)
+(declare-term-types ((E 0)) ((a)))
+(define-funs-rec ((S ((t E) (r Int)) Bool)) ((! (match t ((a (and (= r (- 170141183460469231731687303715884105728)))))) :input () :output (r))))
+(synth-fun f () E)
+(constraint (S f (- 170141183460469231731687303715884105728)))
+(check-synth)
+";
+
 fn is_text(found: Option<&Bytes>, text: &str) -> bool {
     match found {
         Some(found) => found.as_slice() == text.as_bytes(),
@@ -97,6 +112,7 @@ fn canonical_texts(rt: HostRuntime) -> Result<(), Fail> {
         (NESTED, NESTED_AGAIN),
         (NAMED, NAMED_AGAIN),
         (WRITTEN_OUT, LEFT_OUT),
+        (LEAST_NUMBER, LEAST_NUMBER_AGAIN),
     ];
     check_printed(&rt, rt.alloc(), &cases)?;
     Ok(())
@@ -109,6 +125,9 @@ fn canonical_texts_are_printed_as_they_are(rt: HostRuntime) -> Result<(), Fail> 
         (NESTED_AGAIN, NESTED_AGAIN),
         (NAMED_AGAIN, NAMED_AGAIN),
         (LEFT_OUT, LEFT_OUT),
+        (TYPE_AND_CONSTRUCTOR, TYPE_AND_CONSTRUCTOR),
+        (REORDERED, REORDERED),
+        (LEAST_NUMBER_AGAIN, LEAST_NUMBER_AGAIN),
     ];
     check_printed(&rt, rt.alloc(), &cases)?;
     Ok(())
