@@ -56,15 +56,15 @@ ranged-of z h = ap (λ b. option_map value.Int (if b then Some z else None)) h
 
 literal_by_numeral : (form : Sexpr) → is_some (numeral_of form) ≡ true → literal form ≡ whole (pos (number_of form))
 unfolding literal
-literal_by_numeral form e = ap (λ b. if b then whole (pos (number_of form)) else (if is_negated form then whole (negative (number_of (item_of 1 form))) else constant (text_of form))) e
+literal_by_numeral form e = ap (λ b. if b then whole (pos (number_of form)) else (if is_negated form then whole (minus (number_of (item_of 1 form))) else constant (text_of form))) e
 
 shape_by_numeral : (form : Sexpr) → is_some (numeral_of form) ≡ true → is_literal form ≡ true
 unfolding is_literal
 shape_by_numeral form e = ap (λ b. b || (is_negated form || is_constant (text_of form))) e
 
-literal_by_sign : (form : Sexpr) → is_some (numeral_of form) ≡ false → is_negated form ≡ true → literal form ≡ whole (negative (number_of (item_of 1 form)))
+literal_by_sign : (form : Sexpr) → is_some (numeral_of form) ≡ false → is_negated form ≡ true → literal form ≡ whole (minus (number_of (item_of 1 form)))
 unfolding literal
-literal_by_sign form e p = ap₂ (λ b c. if b then whole (pos (number_of form)) else (if c then whole (negative (number_of (item_of 1 form))) else constant (text_of form))) e p
+literal_by_sign form e p = ap₂ (λ b c. if b then whole (pos (number_of form)) else (if c then whole (minus (number_of (item_of 1 form))) else constant (text_of form))) e p
 
 shape_by_sign : (form : Sexpr) → is_some (numeral_of form) ≡ false → is_negated form ≡ true → is_literal form ≡ true
 unfolding is_literal
@@ -88,7 +88,7 @@ not_negated form name e none = parts_first (same_name (codes "-") (text_of (item
 
 literal_by_constant : (form : Sexpr) → is_some (numeral_of form) ≡ false → is_negated form ≡ false → literal form ≡ constant (text_of form)
 unfolding literal
-literal_by_constant form e p = ap₂ (λ b c. if b then whole (pos (number_of form)) else (if c then whole (negative (number_of (item_of 1 form))) else constant (text_of form))) e p
+literal_by_constant form e p = ap₂ (λ b c. if b then whole (pos (number_of form)) else (if c then whole (minus (number_of (item_of 1 form))) else constant (text_of form))) e p
 
 shape_by_constant : (form : Sexpr) → is_some (numeral_of form) ≡ false → is_negated form ≡ false → is_literal form ≡ is_constant (text_of form)
 unfolding is_literal
@@ -134,8 +134,8 @@ negative_read form n h e =
     (ap (λ x. is_some (numeral_of x)) digits ∙ ap is_some (numeral_of_number second.head (suc n) second.same_head)) in record {
       shape = shape_by_sign form absent negated;
       value_is =
-          literal_by_sign form absent negated ∙ ap (λ x. whole (negative (number_of x))) digits
-          ∙ ap (λ k. whole (negative k)) (number_is second.head (suc n) small second.same_head) ∙ ranged-of (negsuc n) h;
+          literal_by_sign form absent negated ∙ ap (λ x. whole (minus (number_of x))) digits
+          ∙ ap (λ k. whole (minus k)) (number_is second.head (suc n) small second.same_head) ∙ ranged-of (negsuc n) h;
     }
 
 constant_read : (form : Sexpr) (name : List ℕ) (v : Value) → is_constant name ≡ true → constant name ≡ Some v → Same form (symbol name) → IsRead form v
