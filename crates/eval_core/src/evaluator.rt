@@ -101,6 +101,35 @@ impl<'a> Evaluator<'a> {
         search.outcomes(&mut self.table, relation, id, inputs, height)
     }
 
+    /// The same outcomes, which aren't kept; what the rules ask of other facts is. This is for who asks about many terms,
+    /// each of them once.
+    pub fn fresh_outcomes(
+        &mut self,
+        bank: &Bank,
+        relation: RelId,
+        id: TermId,
+        inputs: &[Value],
+        height: u32,
+    ) -> Result<Outcomes, AllocError>
+        requires bank { StandsFor self.old bank.now }
+        requires live { IsLive bank.now id }
+        requires inputs { AreInputs self.old.signature relation inputs.now }
+        requires positive { 1 ≤ height }
+        requires low { height ≤ 1000 }
+        ensures outcomes { IfOk result (AreOutcomes self.old.signature self.old.rules height relation (tree_of bank.now id) inputs.now) }
+        ensures signature { self.new.signature ≡ self.old.signature }
+        ensures rules { self.new.rules ≡ self.old.rules }
+        ensures stands { StandsFor self.new bank.now }
+    {
+        let search = Search {
+            alloc: self.alloc,
+            signature: self.signature,
+            rulebook: self.rulebook,
+            bank,
+        };
+        search.find(&mut self.table, relation, id, inputs, height)
+    }
+
     /// Exactly the values of all slots in the instances of the rule on the term at the inputs, whose calls have facts
     /// with derivations of height at most `height`; at height 0 there are none, so the rule has no calls then. They
     /// stand in no order, and one may stand more than once.

@@ -68,7 +68,7 @@ impl Search<'_> {
 
     /// The same outcomes, found by running the rules.
     #[cycle(outcomes)]
-    fn find(
+    pub fn find(
         &self,
         table: &mut Table,
         relation: RelId,

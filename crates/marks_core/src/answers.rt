@@ -31,7 +31,13 @@ pub(crate) fn answers(
 {
     let mut answers = Items::new(alloc);
     for probe in probes {
-        let outcomes = evaluator.outcomes(bank, probe.relation(), id, probe.inputs(), height)?;
+        let outcomes = evaluator.fresh_outcomes(
+            bank,
+            probe.relation(),
+            id,
+            probe.inputs(),
+            height,
+        )?;
         answers.push(outcomes)?;
     }
     Ok(answers)

@@ -100,7 +100,7 @@ fn holds(
     ensures stands { StandsFor evaluator.new bank.now }
 {
     let inputs = example.inputs.as_slice();
-    let outcomes = evaluator.outcomes(bank, example.relation, id, inputs, height)?;
+    let outcomes = evaluator.fresh_outcomes(bank, example.relation, id, inputs, height)?;
     Ok(has_outputs(outcomes.as_slice(), example.outputs.as_slice()))
 }
 

@@ -16,7 +16,7 @@ loop-probe-preserved c =
     record {
       answered = zip_more (λ p outcomes. AreOutcomes old.signature old.rules height p.relation tree p.inputs outcomes) c.args.probes.now c.loop-probe.answers c.push.new.self c.loop-probe.probe-index probe c.in_ok-outcomes.outcomes
           c.loop-probe-test.true c.probe-item.is c.in_ok-push.ensures.ok c.loop-probe.invariant.answered found;
-      signature = c.outcomes.ensures.signature ∙ c.loop-probe.invariant.signature;
-      rules = c.outcomes.ensures.rules ∙ c.loop-probe.invariant.rules;
-      stands = c.outcomes.ensures.stands;
+      signature = c.fresh_outcomes.ensures.signature ∙ c.loop-probe.invariant.signature;
+      rules = c.fresh_outcomes.ensures.rules ∙ c.loop-probe.invariant.rules;
+      stands = c.fresh_outcomes.ensures.stands;
     }
