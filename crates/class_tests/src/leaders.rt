@@ -3,15 +3,20 @@ ghost use Rattle.grammar_core.specs.Languages.{IsGrammarOf};
 ghost use Rattle.sig_core.specs.Signatures.{Declarations};
 
 use crate::growing::classes_to;
-use crate::languages::{Language, MAX, SHIFT, SHIFTED, TINY, ZERO, signature_of, whole};
 use crate::parity::Parity;
+use crate::whole::whole;
 use class_core::Classes;
+use example_terms::{Language, SHIFT, SUMS, TINY, signature_of};
 use grammar_core::{Grammar, NtId};
 use lens_core::{Exact, Lens};
 use sig_core::{ConId, SigError, Signature};
 use std::alloc::{AllocError, Global};
 use std::process::Abort;
 use term_core::{Bank, Tree};
+
+const ZERO: ConId = ConId(0);
+
+const SHIFTED: ConId = ConId(2);
 
 /// The constructors of a term and of its first child.
 type Heads = (ConId, Option<ConId>);
@@ -105,7 +110,7 @@ fn seen_through<L: Lens + Drop>(
     requires signature { (sig : Declarations) → L.is_for lens sig }
     requires bank { L.fits lens [] }
 {
-    let signature = signature_of(rt, alloc, language)?;
+    let signature = signature_of(alloc, language)?;
     let grammar = whole(rt, alloc, &signature)?;
     let seen = seen_over(rt, alloc, lens, &signature, &grammar, last, size)?;
     Ok(seen)
@@ -134,7 +139,7 @@ fn each_sum_leads_where_terms_are_told_apart(rt: HostRuntime) {
         leader: (ConId(0), None),
     };
     assert_eq!(rt;
-        seen_through(&rt, rt.alloc(), exact, &MAX, 3, 1),
+        seen_through(&rt, rt.alloc(), exact, &SUMS, 3, 1),
         Ok(wanted)
     );
 }

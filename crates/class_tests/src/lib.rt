@@ -4,10 +4,10 @@
 #[cfg(test)]
 mod growing;
 #[cfg(test)]
-mod languages;
-#[cfg(test)]
 mod leaders;
 #[cfg(test)]
 mod lists;
 #[cfg(test)]
 mod parity;
+#[cfg(test)]
+mod whole;

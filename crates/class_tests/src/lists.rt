@@ -1,5 +1,6 @@
 use crate::growing::lists_to;
-use crate::languages::{MAX, signature_of, whole};
+use crate::whole::whole;
+use example_terms::{SUMS, signature_of};
 use grammar_core::{Grammar, NtId};
 use sig_core::{SigError, Signature};
 use size_core::SizeLists;
@@ -34,7 +35,7 @@ fn counted_over(
 }
 
 fn counted(rt: &impl Abort, alloc: Global) -> Result<(u32, usize), SigError> {
-    let signature = signature_of(rt, alloc, &MAX)?;
+    let signature = signature_of(alloc, &SUMS)?;
     let grammar = whole(rt, alloc, &signature)?;
     let counted = counted_over(rt, alloc, &signature, &grammar)?;
     Ok(counted)

@@ -1,9 +1,7 @@
-//! Tests of grammars over signatures and banks.
+//! Tests of terms and of whole grammars.
 #![tactic(auto)]
 
 #[cfg(test)]
-mod grammars;
+mod terms;
 #[cfg(test)]
-mod productions;
-#[cfg(test)]
-mod sums;
+mod whole;

@@ -5,10 +5,9 @@ ghost use Rattle.rule_core.specs.Rulebooks.{HasSmallParts};
 ghost use Rattle.outcome_tests.specs.Rules.{IsShort};
 
 use crate::evaluating::{Given, Question, add, expect, found};
-use crate::language::{B, E, Shape, language};
-use crate::nodes::Node;
 use crate::relations::add_binary;
 use crate::rules::{call_child, choice, fill, giving, over_two, put, rule, variables};
+use example_terms::{B, E, Language, Node, signature_of};
 use expr_core::{Expr, Op};
 use rule_core::{AddError, Atoms, Rule, Rulebook};
 use sig_core::{ConId, RelId, SigError, Signature, Sort, Value};
@@ -19,12 +18,15 @@ const E_SEM: RelId = RelId(0);
 
 const B_SEM: RelId = RelId(1);
 
-const CONSTRUCTORS: [Shape; 4] = [
-    (b"$x", E, &[]),
-    (b"$y", E, &[]),
-    (b"$ite", E, &[B, E, E]),
-    (b"$<", B, &[E, E]),
-];
+const LANGUAGE: Language = Language {
+    types: &[b"E", b"B"],
+    constructors: &[
+        (b"$x", E, &[]),
+        (b"$y", E, &[]),
+        (b"$ite", E, &[B, E, E]),
+        (b"$<", B, &[E, E]),
+    ],
+};
 
 const ITE: ConId = ConId(2);
 
@@ -99,7 +101,7 @@ fn book(rt: &impl Abort, alloc: Global, signature: &Signature) -> Result<Ruleboo
 }
 
 fn signature(rt: &impl Abort, alloc: Global) -> Result<Signature, SigError> {
-    let mut signature = language(rt, alloc, &CONSTRUCTORS)?;
+    let mut signature = signature_of(alloc, &LANGUAGE)?;
     add_binary(rt, alloc, &mut signature, b"E.Sem", E, Sort::Int)?;
     add_binary(rt, alloc, &mut signature, b"B.Sem", B, Sort::Bool)?;
     Ok(signature)

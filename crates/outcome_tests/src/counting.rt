@@ -4,10 +4,9 @@ ghost use Rattle.eval_core.specs.Evaluations.{IsAccepted};
 ghost use Rattle.outcome_tests.specs.Rules.{IsShort};
 
 use crate::evaluating::{Given, Question, add, expect, found};
-use crate::language::{E, Shape, language};
-use crate::nodes::LEAF;
 use crate::relations::add_unary;
 use crate::rules::{call_itself, fill, number, over_number, put, rule, test, variables};
+use example_terms::{E, LEAF, Language, signature_of};
 use expr_core::Op;
 use rule_core::{AddError, Atoms, Rule, Rulebook};
 use sig_core::{ConId, RelId, SigError, Signature, Sort, Value};
@@ -16,7 +15,10 @@ use std::process::Abort;
 
 const S: RelId = RelId(0);
 
-const CONSTRUCTORS: [Shape; 1] = [(b"$loop", E, &[])];
+const LANGUAGE: Language = Language {
+    types: &[b"E"],
+    constructors: &[(b"$loop", E, &[])],
+};
 
 /// `(and (<= x 0) (= r 0))`
 fn last(alloc: Global) -> Result<Rule, AllocError>
@@ -50,7 +52,7 @@ fn book(rt: &impl Abort, alloc: Global, signature: &Signature) -> Result<Ruleboo
 }
 
 fn signature(rt: &impl Abort, alloc: Global) -> Result<Signature, SigError> {
-    let mut signature = language(rt, alloc, &CONSTRUCTORS)?;
+    let mut signature = signature_of(alloc, &LANGUAGE)?;
     add_unary(rt, alloc, &mut signature, b"S", E)?;
     Ok(signature)
 }

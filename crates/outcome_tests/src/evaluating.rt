@@ -5,8 +5,8 @@ ghost use Rattle.eval_core.specs.Outcomes.{AreInputs, AreOutcomes};
 ghost use Rattle.outcome_tests.specs.Rules.{IsShort};
 
 use crate::conditions::{expect_inputs, expect_rule};
-use crate::nodes::{Node, interned};
 use eval_core::{Evaluator, Outcome, Outcomes};
+use example_terms::{Node, interned};
 use rule_core::{AddError, Rule, Rulebook};
 use sig_core::{RelId, Signature, Value};
 use std::alloc::{AllocError, Global};
@@ -120,7 +120,7 @@ pub fn found(
 ) -> Result<Given, AllocError>
     requires { All (IsAccepted signature.now) book.now }
 {
-    let bank = interned(rt, alloc, signature, nodes)?;
+    let bank = interned(alloc, signature, nodes)?;
     found_in(rt, alloc, signature, book, &bank, question)
 }
 

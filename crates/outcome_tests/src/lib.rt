@@ -10,10 +10,6 @@ mod counting;
 #[cfg(test)]
 mod evaluating;
 #[cfg(test)]
-mod language;
-#[cfg(test)]
-mod nodes;
-#[cfg(test)]
 mod relations;
 #[cfg(test)]
 mod rules;

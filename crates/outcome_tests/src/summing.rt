@@ -5,10 +5,9 @@ ghost use Rattle.eval_core.specs.Evaluations.{IsAccepted};
 ghost use Rattle.outcome_tests.specs.Rules.{IsShort};
 
 use crate::evaluating::{Given, Question, add, expect, found};
-use crate::language::{E, Shape, language};
-use crate::nodes::LEAF;
 use crate::relations::add_unary;
 use crate::rules::{call_itself, fill, over_number, over_two, put, rule, test, variables};
+use example_terms::{E, LEAF, Language, signature_of};
 use expr_core::{Expr, Op};
 use rule_core::{AddError, Atoms, Rule, Rulebook};
 use sig_core::{ConId, RelId, SigError, Signature, Sort, Value};
@@ -17,7 +16,10 @@ use std::process::Abort;
 
 const S: RelId = RelId(0);
 
-const CONSTRUCTORS: [Shape; 1] = [(b"$fib", E, &[])];
+const LANGUAGE: Language = Language {
+    types: &[b"E"],
+    constructors: &[(b"$fib", E, &[])],
+};
 
 /// `(and (< x 2) (= r x))`
 fn first_two(alloc: Global) -> Result<Rule, AllocError>
@@ -63,7 +65,7 @@ fn book(rt: &impl Abort, alloc: Global, signature: &Signature) -> Result<Ruleboo
 }
 
 fn signature(rt: &impl Abort, alloc: Global) -> Result<Signature, SigError> {
-    let mut signature = language(rt, alloc, &CONSTRUCTORS)?;
+    let mut signature = signature_of(alloc, &LANGUAGE)?;
     add_unary(rt, alloc, &mut signature, b"S", E)?;
     Ok(signature)
 }

@@ -3,10 +3,9 @@ ghost use Rattle.std.specs.Prelude.{All, IfOk};
 ghost use Rattle.eval_core.specs.Evaluations.{IsAccepted};
 
 use crate::evaluating::{Given, Question, add, expect, found};
-use crate::language::{E, Shape, language};
-use crate::nodes::LEAF;
 use crate::relations::add_constant;
 use crate::rules::{giving, number};
+use example_terms::{E, LEAF, Language, signature_of};
 use rule_core::{AddError, Rulebook};
 use sig_core::{ConId, RelId, SigError, Signature};
 use std::alloc::Global;
@@ -14,7 +13,10 @@ use std::process::Abort;
 
 const S: RelId = RelId(0);
 
-const CONSTRUCTORS: [Shape; 1] = [(b"$c", E, &[])];
+const LANGUAGE: Language = Language {
+    types: &[b"E"],
+    constructors: &[(b"$c", E, &[])],
+};
 
 /// `($c (= r first)) ($c (= r second))`
 fn book(
@@ -43,7 +45,7 @@ fn book(
 }
 
 fn signature(rt: &impl Abort, alloc: Global) -> Result<Signature, SigError> {
-    let mut signature = language(rt, alloc, &CONSTRUCTORS)?;
+    let mut signature = signature_of(alloc, &LANGUAGE)?;
     add_constant(rt, alloc, &mut signature, b"S", E)?;
     Ok(signature)
 }

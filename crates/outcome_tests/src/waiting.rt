@@ -4,10 +4,9 @@ ghost use Rattle.eval_core.specs.Evaluations.{IsAccepted};
 ghost use Rattle.outcome_tests.specs.Rules.{IsShort};
 
 use crate::evaluating::{Given, Question, add, expect, found};
-use crate::language::{E, Shape, language};
-use crate::nodes::LEAF;
 use crate::relations::add_unary;
 use crate::rules::{call_itself, fill, giving, put, rule, variables};
+use example_terms::{E, LEAF, Language, signature_of};
 use expr_core::Expr;
 use rule_core::{AddError, Atoms, Rule, Rulebook};
 use sig_core::{ConId, RelId, SigError, Signature, Sort, Value};
@@ -18,7 +17,10 @@ const SEM: RelId = RelId(0);
 
 const AUX: RelId = RelId(1);
 
-const CONSTRUCTORS: [Shape; 3] = [(b"$slow", E, &[]), (b"$fast", E, &[]), (b"$wrap", E, &[E])];
+const LANGUAGE: Language = Language {
+    types: &[b"E"],
+    constructors: &[(b"$slow", E, &[]), (b"$fast", E, &[]), (b"$wrap", E, &[E])],
+};
 
 /// `(exists ((q Int)) (and (Aux t x q) (= r q)))`
 fn slow(alloc: Global) -> Result<Rule, AllocError>
@@ -45,7 +47,7 @@ fn book(rt: &impl Abort, alloc: Global, signature: &Signature) -> Result<Ruleboo
 }
 
 fn signature(rt: &impl Abort, alloc: Global) -> Result<Signature, SigError> {
-    let mut signature = language(rt, alloc, &CONSTRUCTORS)?;
+    let mut signature = signature_of(alloc, &LANGUAGE)?;
     add_unary(rt, alloc, &mut signature, b"Sem", E)?;
     add_unary(rt, alloc, &mut signature, b"Aux", E)?;
     Ok(signature)

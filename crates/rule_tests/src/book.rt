@@ -1,8 +1,7 @@
 ghost use Rattle.std.specs.Prelude.{◌≡◌, ◌<◌, ◌+◌, ◌≤◌, OnOk, length};
-ghost use Rattle.rule_tests.specs.Examples.{example};
+ghost use Rattle.example_rules.specs.Examples.{example};
 
-use crate::language::example;
-use crate::rules::{CHOICE, GIVES, MAPS, PLUS, ones, rule, variables};
+use example_rules::{CHOICE, GIVES, MAPS, PLUS, example, ones, rule, variables};
 use rule_core::{AddError, Rulebook};
 use sig_core::{ConId, RelId, Signature};
 use std::alloc::Global;

@@ -1,11 +1,10 @@
 ghost use Rattle.std.specs.Prelude.{◌<◌, ◌≤◌};
 ghost use Rattle.rule_core.specs.Rulebooks.{HasSmallParts, IsRuleOf};
-ghost use Rattle.rule_tests.specs.Examples.{example};
+ghost use Rattle.example_rules.specs.Examples.{example};
 
-use crate::language::example;
-use crate::rules::{
-    CHOICE, GIVES, MAPS, PLUS, alone, call, is_one, one, ones, pair, rule, slot, successor,
-    variables,
+use example_rules::{
+    CHOICE, GIVES, MAPS, PLUS, alone, call, example, is_one, one, ones, pair, rule, slot,
+    successor, variables,
 };
 use expr_core::Expr;
 use rule_core::{AddError, Atom, Atoms, FlowFault, Rule, Rulebook, Who};

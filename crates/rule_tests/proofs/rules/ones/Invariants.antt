@@ -1,6 +1,0 @@
-use Rattle.std.proofs.Common.{◌≤◌, ◌+◌, length, All}
-use Rattle.rule_core.specs.Rulebooks.{HasSmallParts}
-use Rattle.rule_tests.proofs.rules.ones.Given as goal
-
-abbrev pub invariant-loop-slot : goal.invariant-loop-slot
-invariant-loop-slot l = (length l.atoms + 1 ≤ l.slot) × (l.slot ≤ 64) × All HasSmallParts l.atoms
