@@ -3,11 +3,10 @@ use Rattle.std.specs.Prelude.{ℕ, pos, [], ◌∷◌, codes}
 use Rattle.sig_core.specs.declared.ids.ConId.{ConId}
 use Rattle.sig_core.specs.declared.ids.RelId.{RelId}
 use Rattle.sig_core.specs.declared.ids.TypeId.{TypeId}
-use Rattle.sig_core.specs.declared.value.Sort.TheVariants as sort
 use Rattle.sig_core.specs.declared.value.Value.TheVariants as value
-use Rattle.sig_core.specs.declared.signature.Kind.TheVariants.{Term, Output}
 use Rattle.sig_core.specs.declared.signature.Relation.{Relation}
 use Rattle.sig_core.specs.Signatures.{Declarations}
+use Rattle.example_relations.specs.Relations.{constant_params}
 use Rattle.expr_core.specs.declared.expr.Expr.TheVariants.{Lit}
 use Rattle.rule_core.specs.declared.rule.Atom.TheVariants.{Fill}
 use Rattle.rule_core.specs.declared.rule.Rule.{Rule}
@@ -18,7 +17,7 @@ the_type = record { 0 = 0 }
 
 -- of a term and an output
 abbrev pub gives : Relation
-gives = record { name = codes "S"; params = record { name = codes "t"; kind = Term the_type } ∷ record { name = codes "r"; kind = Output sort.Int } ∷ [] }
+gives = record { name = codes "S"; params = constant_params the_type }
 
 abbrev pub constants : Declarations
 constants = record { types = codes "E" ∷ []; constructors = record { name = codes "$a"; owner = the_type; args = [] } ∷ record { name = codes "$c"; owner = the_type; args = [] } ∷ []; relations = [] }

@@ -1,11 +1,10 @@
 -- A small signature: two types, constructors of sums and of choices by a condition, and two relations.
 use Rattle.std.specs.Prelude.{[], ◌∷◌, codes}
 use Rattle.sig_core.specs.declared.ids.TypeId.{TypeId}
-use Rattle.sig_core.specs.declared.value.Sort.TheVariants as sort
 use Rattle.sig_core.specs.declared.signature.Constructor.{Constructor}
-use Rattle.sig_core.specs.declared.signature.Kind.TheVariants.{Term, Input, Output}
 use Rattle.sig_core.specs.declared.signature.Relation.{Relation}
 use Rattle.sig_core.specs.Signatures.{Declarations}
+use Rattle.example_relations.specs.Relations.{constant_params, unary_params}
 
 abbrev pub the_type : TypeId
 the_type = record { 0 = 0 }
@@ -22,14 +21,11 @@ choice = record { name = codes "$if"; owner = the_type; args = condition_type �
 
 -- of a term and an output
 abbrev pub gives : Relation
-gives = record { name = codes "U"; params = record { name = codes "t"; kind = Term the_type } ∷ record { name = codes "r"; kind = Output sort.Int } ∷ [] }
+gives = record { name = codes "U"; params = constant_params the_type }
 
 -- of a term, an input and an output
 abbrev pub maps : Relation
-maps = record {
-  name = codes "S";
-  params = record { name = codes "t"; kind = Term the_type } ∷ record { name = codes "x"; kind = Input sort.Int } ∷ record { name = codes "r"; kind = Output sort.Int } ∷ [];
-}
+maps = record { name = codes "S"; params = unary_params the_type }
 
 abbrev pub two_types : Declarations
 two_types = record { types = codes "E" ∷ codes "B" ∷ []; constructors = []; relations = [] }

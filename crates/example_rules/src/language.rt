@@ -1,7 +1,8 @@
 ghost use Rattle.std.specs.Prelude.{◌≡◌, IfOk};
 ghost use Rattle.example_rules.specs.Examples.{the_type, gives, maps, two_types, two_constructors, example};
 
-use sig_core::{Kind, Param, Params, Relation, SigError, Signature, Sort, TypeId, bytes_of};
+use example_relations::{constant_params, unary_params};
+use sig_core::{Relation, SigError, Signature, TypeId, bytes_of};
 use std::alloc::{AllocError, Global};
 
 /// The type of terms.
@@ -10,37 +11,21 @@ pub const TERM: TypeId = TypeId(0);
 /// The type of conditions.
 const CONDITION: TypeId = TypeId(1);
 
-pub fn param(alloc: Global, name: &[u8], kind: Kind) -> Result<Param, AllocError>
-    ensures { IfOk result (λ param. param ≡ record { name = name.now; kind = kind }) }
-{
-    Ok(Param {
-        name: bytes_of(alloc, name)?,
-        kind,
-    })
-}
-
 fn gives(alloc: Global) -> Result<Relation, AllocError>
     ensures { IfOk result (λ relation. relation ≡ gives) }
 {
-    let mut params = Params::new(alloc);
-    params.push(param(alloc, b"t", Kind::Term(TERM))?)?;
-    params.push(param(alloc, b"r", Kind::Output(Sort::Int))?)?;
     Ok(Relation {
         name: bytes_of(alloc, b"U")?,
-        params,
+        params: constant_params(alloc, TERM)?,
     })
 }
 
 fn maps(alloc: Global) -> Result<Relation, AllocError>
     ensures { IfOk result (λ relation. relation ≡ maps) }
 {
-    let mut params = Params::new(alloc);
-    params.push(param(alloc, b"t", Kind::Term(TERM))?)?;
-    params.push(param(alloc, b"x", Kind::Input(Sort::Int))?)?;
-    params.push(param(alloc, b"r", Kind::Output(Sort::Int))?)?;
     Ok(Relation {
         name: bytes_of(alloc, b"S")?,
-        params,
+        params: unary_params(alloc, TERM)?,
     })
 }
 

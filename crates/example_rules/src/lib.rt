@@ -4,7 +4,7 @@
 mod language;
 mod rules;
 
-pub use language::{TERM, example, param, two_constructors};
+pub use language::{TERM, example, two_constructors};
 pub use rules::{
     CHOICE, GIVES, MAPS, PLUS, alone, call, is_one, one, ones, pair, rule, slot, successor,
     variables,

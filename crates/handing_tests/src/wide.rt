@@ -3,7 +3,8 @@ ghost use Rattle.std.specs.Prelude.{◌≡◌, ◌<◌, ◌≤◌, [], ◌∷◌
 ghost use Rattle.rule_core.specs.Rulebooks.{HasSmallParts, IsRuleOf, IsSmall};
 ghost use Rattle.handing_tests.specs.Wide.{sums, splits, wide};
 
-use example_rules::{PLUS, TERM, one, param, slot, two_constructors};
+use example_relations::param;
+use example_rules::{PLUS, TERM, one, slot, two_constructors};
 use expr_core::{Expr, Kids, Op};
 use rule_core::{AddError, Atom, Atoms, Call, FlowFault, Names, Rule, Rulebook, Var, Vars, Who};
 use sig_core::{Kind, Param, Params, RelId, Relation, SigError, Signature, Sort, bytes_of};

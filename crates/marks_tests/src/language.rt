@@ -3,9 +3,8 @@ ghost use Rattle.sig_core.specs.WellFormed.{IsWellFormed};
 ghost use Rattle.eval_core.specs.ShiftExample.{shifts};
 ghost use Rattle.marks_tests.specs.Stages.{constants, constructed, gives_relation};
 
-use sig_core::{
-    Bytes, ConId, Kind, Param, Params, RelId, Relation, SigError, Signature, Sort, TypeId,
-};
+use example_relations::unary_params;
+use sig_core::{ConId, RelId, Relation, SigError, Signature, TypeId, bytes_of};
 use std::alloc::{AllocError, Global};
 
 /// The one type.
@@ -21,33 +20,12 @@ pub const SHIFT: ConId = ConId(2);
 /// Of a term, an input and an output.
 pub const GIVES: RelId = RelId(0);
 
-pub fn bytes(alloc: Global, text: &[u8]) -> Result<Bytes, AllocError>
-    ensures { IfOk result (λ bytes. bytes ≡ text.now) }
-{
-    let mut bytes = Bytes::new(alloc);
-    bytes.append(text)?;
-    Ok(bytes)
-}
-
-fn param(alloc: Global, name: &[u8], kind: Kind) -> Result<Param, AllocError>
-    ensures { IfOk result (λ param. param ≡ record { name = name.now; kind = kind }) }
-{
-    Ok(Param {
-        name: bytes(alloc, name)?,
-        kind,
-    })
-}
-
 fn gives(alloc: Global) -> Result<Relation, AllocError>
     ensures { IfOk result (λ relation. relation ≡ gives_relation) }
 {
-    let mut params = Params::new(alloc);
-    params.push(param(alloc, b"t", Kind::Term(TERM))?)?;
-    params.push(param(alloc, b"x", Kind::Input(Sort::Int))?)?;
-    params.push(param(alloc, b"r", Kind::Output(Sort::Int))?)?;
     Ok(Relation {
-        name: bytes(alloc, b"gives")?,
-        params,
+        name: bytes_of(alloc, b"gives")?,
+        params: unary_params(alloc, TERM)?,
     })
 }
 

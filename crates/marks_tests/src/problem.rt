@@ -3,11 +3,11 @@ ghost use Rattle.grammar_core.specs.Limits.{KeepsLimits};
 ghost use Rattle.grammar_core.specs.WellFormed.{IsGrammar};
 ghost use Rattle.eval_core.specs.ShiftExample.{shift_problem, shifts};
 
-use crate::language::{GIVES, TERM, bytes, shifts};
+use crate::language::{GIVES, TERM, shifts};
 use crate::rules::book;
 use grammar_core::Grammar;
 use problem_core::{Constraint, Constraints, Infos, Problem};
-use sig_core::{Signature, Value, Values};
+use sig_core::{Signature, Value, Values, bytes_of};
 use std::alloc::{AllocError, Global};
 
 /// `(constraint (gives f 0 1))`
@@ -48,7 +48,7 @@ pub fn shift_problem(alloc: Global) -> Result<Problem, AllocError>
         return Err(AllocError);
     };
     let grammar = grammar(alloc, &signature)?;
-    let wanted = bytes(alloc, b"f")?;
+    let wanted = bytes_of(alloc, b"f")?;
     let constraints = constraints(alloc)?;
     Ok(Problem::new(
         Infos::new(alloc),

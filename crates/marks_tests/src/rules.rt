@@ -4,10 +4,10 @@ ghost use Rattle.rule_core.specs.Rulebooks.{IsRuleOf};
 ghost use Rattle.rule_core.specs.declared.rule.Atom.TheVariants.{Fill};
 ghost use Rattle.eval_core.specs.ShiftExample.{call_at_next, shift_problem, shift_rule, shifts, x_rule, zero_rule};
 
-use crate::language::{GIVES, SHIFT, X, ZERO, bytes};
+use crate::language::{GIVES, SHIFT, X, ZERO};
 use expr_core::{Expr, Kids, Op};
 use rule_core::{AddError, Atom, Atoms, Call, Names, Rule, Rulebook, Var, Vars, Who};
-use sig_core::{ConId, Signature, Sort, Value};
+use sig_core::{ConId, Signature, Sort, Value, bytes_of};
 use std::alloc::{AllocError, Global};
 
 /// `(= r e)`, in a rule of a constant.
@@ -61,10 +61,10 @@ fn shift_rule(alloc: Global) -> Result<Rule, AllocError>
     ensures { IfOk result (λ rule. rule ≡ shift_rule) }
 {
     let mut kid_names = Names::new(alloc);
-    kid_names.push(bytes(alloc, b"u")?)?;
+    kid_names.push(bytes_of(alloc, b"u")?)?;
     let mut more = Vars::new(alloc);
     more.push(Var {
-        name: bytes(alloc, b"q")?,
+        name: bytes_of(alloc, b"q")?,
         sort: Sort::Int,
     })?;
     let mut atoms = Atoms::new(alloc);

@@ -7,7 +7,7 @@ use Rattle.sig_core.specs.declared.value.Sort.{Sort}
 use Rattle.sig_core.specs.Names.{is_reserved, AreDistinct}
 use Rattle.sig_core.specs.WellFormed.{IsRelation}
 use Rattle.sig_core.proofs.NameLemmas.{AreDistinct-push}
-use Rattle.outcome_tests.specs.Relations.{constant_params, unary_params, binary_params}
+use Rattle.example_relations.specs.Relations.{constant_params, unary_params, binary_params}
 
 free_t : is_reserved (codes "t") ≡ false
 unfolding is_reserved

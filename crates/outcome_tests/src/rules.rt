@@ -3,10 +3,9 @@ ghost use Rattle.expr_core.specs.Expressions.{node_count};
 ghost use Rattle.rule_core.specs.Rulebooks.{HasSmallParts, IsSmall};
 ghost use Rattle.outcome_tests.specs.Rules.{IsShort};
 
-use crate::relations::bytes;
 use expr_core::{Expr, Kids, Op};
 use rule_core::{Atom, Atoms, Call, Names, Rule, Var, Vars, Who};
-use sig_core::{ConId, RelId, Sort, Value};
+use sig_core::{ConId, RelId, Sort, Value, bytes_of};
 use std::alloc::{AllocError, Global};
 
 /// Existentials of these sorts.
@@ -14,7 +13,7 @@ pub fn variables(alloc: Global, sorts: &[Sort]) -> Result<Vars, AllocError> {
     let mut vars = Vars::new(alloc);
     for sort in sorts {
         vars.push(Var {
-            name: bytes(alloc, b"v")?,
+            name: bytes_of(alloc, b"v")?,
             sort: *sort,
         })?;
     }
