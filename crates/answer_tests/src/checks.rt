@@ -1,8 +1,8 @@
 //! The verdict on answers, and answers that are printed as they were read.
-use crate::problems::problem;
 use crate::texts::{Said, said_of, said_of_narrow};
 use answer_core::{Verdict, print_answer, read_answer};
 use deriv_core::BadStep;
+use example_problems::problem;
 use problem_core::Problem;
 use sig_core::Bytes;
 use spelling_tests::forms_of;

@@ -3,11 +3,7 @@
 
 #[cfg(test)]
 mod checks;
-mod language;
-mod problems;
 #[cfg(test)]
 mod reading;
 #[cfg(test)]
 mod texts;
-
-pub use problems::{narrow_problem, problem};

@@ -1,5 +1,5 @@
-use crate::problems::{narrow_problem, problem};
 use answer_core::{AnswerError, AnswerFault, Verdict, check, read_answer};
+use example_problems::{narrow_problem, problem};
 use problem_core::Problem;
 use spelling_tests::forms_of;
 use std::alloc::{AllocError, Global};

@@ -4,6 +4,4 @@ pub mod Fitting
 pub mod Judging
 pub mod Elaborating
 pub mod Soundness
-pub mod Places
-pub mod Flowing
 pub mod Feeding

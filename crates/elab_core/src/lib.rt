@@ -21,6 +21,6 @@ mod types;
 
 pub use elaborator::Elaborator;
 pub use judge::Judge;
-pub use laws::{nodes_from_the_left, one_judgement, rules_fit};
+pub use laws::one_judgement;
 pub use sort_core::ElabError;
 pub use syntax_core::Fault;

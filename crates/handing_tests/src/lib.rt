@@ -1,7 +1,5 @@
-//! Tests of rules: which children they hand on, and relations with several inputs and outputs.
+//! Tests of rules: which children they hand on.
 #![tactic(auto)]
 
 #[cfg(test)]
 mod handing;
-#[cfg(test)]
-mod wide;

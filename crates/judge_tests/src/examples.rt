@@ -1,5 +1,5 @@
+use crate::checking::{check_refused, check_taken};
 use crate::frames::{AFTER_RELATIONS, AFTER_WANTED};
-use crate::judging::{check_refused, check_taken};
 use std::test::Fail;
 
 const CALLS: [(&str, u8); 7] = [

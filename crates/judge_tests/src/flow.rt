@@ -1,5 +1,5 @@
+use crate::checking::{check_refused, check_taken};
 use crate::frames::{FLOW, WHOLE};
-use crate::judging::{check_refused, check_taken};
 use std::test::Fail;
 
 /// Atoms that use an unknown variable, the first of each rule.

@@ -1,5 +1,5 @@
+use crate::checking::{check_refused, check_taken};
 use crate::frames::{AFTER_TYPES, ATOM, BODY, CASES};
-use crate::judging::{check_refused, check_taken};
 use std::test::Fail;
 
 const LISTS: [(&str, u8); 9] = [

@@ -6,24 +6,23 @@ use elab_core::{ElabError, Judge};
 use problem_core::Problem;
 use sig_core::Bytes;
 use std::alloc::{AllocError, Global};
-use std::process::Abort;
 
 /// Where and why a file is refused. The limit is 0 where none was passed.
 #[derive(Clone, Copy, Debug, PartialEq, Eq)]
-pub(crate) struct Refusal {
+pub struct Refusal {
     pub place: usize,
     pub reason: u8,
     pub limit: u8,
 }
 
-/// Why the file of this text is refused; none where it states a problem.
-pub(crate) fn refusal_of(
-    rt: &impl Abort,
-    alloc: Global,
-    text: &[u8],
-) -> Result<Option<Refusal>, AllocError> {
-    assert!(rt; text.len() < 2_000_000);
-    refusal_of_text(alloc, text)
+/// Why the file of this text is refused; none where it states a problem. A text of 2,000,000 bytes or more isn't judged,
+/// and answered as if memory were refused.
+pub fn refusal_of(alloc: Global, text: &[u8]) -> Result<Option<Refusal>, AllocError> {
+    if text.len() < 2_000_000 {
+        refusal_of_text(alloc, text)
+    } else {
+        Err(AllocError)
+    }
 }
 
 fn refusal_of_text(alloc: Global, text: &[u8]) -> Result<Option<Refusal>, AllocError>
@@ -61,7 +60,7 @@ fn refusal_in(judged: Result<Problem, ElabError>) -> Result<Option<Refusal>, All
 }
 
 /// Appends the lines without their mark `[`. The place of the byte after the mark; else 0.
-pub(crate) fn append_marked(text: &mut Bytes, lines: &str) -> Result<usize, AllocError> {
+pub fn append_marked(text: &mut Bytes, lines: &str) -> Result<usize, AllocError> {
     let mut place = 0;
     for byte in lines.as_bytes() {
         if *byte == b'[' {
@@ -71,61 +70,4 @@ pub(crate) fn append_marked(text: &mut Bytes, lines: &str) -> Result<usize, Allo
         }
     }
     Ok(place)
-}
-
-/// Whether the file with these lines is refused at the mark `[` among them, for this reason.
-fn check_one(
-    rt: &impl Abort,
-    alloc: Global,
-    frame: (&str, &str),
-    lines: &str,
-    reason: u8,
-) -> Result<(), AllocError> {
-    let (front, back) = frame;
-    let mut text = Bytes::new(alloc);
-    text.append(front.as_bytes())?;
-    let place = append_marked(&mut text, lines)?;
-    text.append(back.as_bytes())?;
-    let refusal = Refusal {
-        place,
-        reason,
-        limit: 0,
-    };
-    assert_eq!(rt;
-        refusal_of(rt, alloc, text.as_slice())?,
-        Some(refusal),
-        "{lines}"
-    );
-    Ok(())
-}
-
-/// Whether each file is refused at its mark `[` for its reason. Each stands between the two parts of the frame.
-pub(crate) fn check_refused(
-    rt: &impl Abort,
-    alloc: Global,
-    frame: (&str, &str),
-    cases: &[(&str, u8)],
-) -> Result<(), AllocError> {
-    for (lines, reason) in cases {
-        check_one(rt, alloc, frame, lines, *reason)?;
-    }
-    Ok(())
-}
-
-/// Whether each file states a problem. Each stands between the two parts of the frame.
-pub(crate) fn check_taken(
-    rt: &impl Abort,
-    alloc: Global,
-    frame: (&str, &str),
-    cases: &[&str],
-) -> Result<(), AllocError> {
-    let (front, back) = frame;
-    for lines in cases {
-        let mut text = Bytes::new(alloc);
-        text.append(front.as_bytes())?;
-        text.append(lines.as_bytes())?;
-        text.append(back.as_bytes())?;
-        assert_eq!(rt; refusal_of(rt, alloc, text.as_slice())?, None, "{lines}");
-    }
-    Ok(())
 }

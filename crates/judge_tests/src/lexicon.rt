@@ -1,8 +1,8 @@
+use crate::checking::{check_refused, check_taken};
 use crate::frames::{FIRST, WHOLE};
-use crate::judging::{Refusal, check_refused, check_taken, refusal_of};
+use crate::judging::{Refusal, refusal_of};
 use sig_core::Bytes;
 use std::alloc::{AllocError, Global};
-use std::process::Abort;
 use std::test::Fail;
 
 /// Bytes that neither begin nor continue a token where they stand.
@@ -173,11 +173,7 @@ fn rare_spellings(rt: HostRuntime) -> Result<(), Fail> {
 }
 
 /// Why a file is refused whose info nests so many lists deep, its command among them.
-fn refusal_of_nested(
-    rt: &impl Abort,
-    alloc: Global,
-    levels: u32,
-) -> Result<Option<Refusal>, AllocError> {
+fn refusal_of_nested(alloc: Global, levels: u32) -> Result<Option<Refusal>, AllocError> {
     let mut text = Bytes::new(alloc);
     text.append(b"(set-info :a ")?;
     for _ in 1..levels {
@@ -186,7 +182,7 @@ fn refusal_of_nested(
     for _ in 0..levels {
         text.push(b')')?;
     }
-    refusal_of(rt, alloc, text.as_slice())
+    refusal_of(alloc, text.as_slice())
 }
 
 #[test]
@@ -203,7 +199,7 @@ fn lists_nest_200_deep(rt: HostRuntime) -> Result<(), Fail> {
         reason: 5,
         limit: 0,
     };
-    assert_eq!(rt; refusal_of_nested(&rt, rt.alloc(), 200)?, Some(at_end));
-    assert_eq!(rt; refusal_of_nested(&rt, rt.alloc(), 201)?, Some(too_deep));
+    assert_eq!(rt; refusal_of_nested(rt.alloc(), 200)?, Some(at_end));
+    assert_eq!(rt; refusal_of_nested(rt.alloc(), 201)?, Some(too_deep));
     Ok(())
 }

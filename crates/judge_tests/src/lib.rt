@@ -1,6 +1,9 @@
-//! Tests of how whole files are judged: where and why each is refused, or how it is read.
+//! Tests of how whole files are judged: where and why each is refused, or how it is read. Why a text is refused, for other
+//! crates of tests.
 #![tactic(auto)]
 
+#[cfg(test)]
+mod checking;
 #[cfg(test)]
 mod examples;
 #[cfg(test)]
@@ -9,12 +12,9 @@ mod flow;
 mod frames;
 #[cfg(test)]
 mod function_shapes;
-#[cfg(test)]
 mod judging;
 #[cfg(test)]
 mod lexicon;
-#[cfg(test)]
-mod limits;
 #[cfg(test)]
 mod names;
 #[cfg(test)]
@@ -23,3 +23,5 @@ mod order;
 mod shapes;
 #[cfg(test)]
 mod sorts;
+
+pub use judging::{Refusal, append_marked, refusal_of};

@@ -1,5 +1,5 @@
+use crate::checking::{check_refused, check_taken};
 use crate::frames::{AFTER_RELATIONS, AFTER_TYPES, AFTER_WANTED, ATOM, BODY, CASES, FIRST};
-use crate::judging::{check_refused, check_taken};
 use std::test::Fail;
 
 const TYPES: [(&str, u8); 14] = [

@@ -1,5 +1,5 @@
+use crate::checking::{check_refused, check_taken};
 use crate::frames::{AFTER_RELATIONS, AFTER_WANTED, FIRST, WHOLE};
-use crate::judging::{check_refused, check_taken};
 use std::test::Fail;
 
 /// Forms that are no lists with a symbol first.

@@ -1,5 +1,5 @@
+use crate::checking::{check_refused, check_taken};
 use crate::frames::{AFTER_RELATIONS, AFTER_TYPES, AFTER_WANTED, FIRST};
-use crate::judging::{check_refused, check_taken};
 use std::test::Fail;
 
 const INFOS: [(&str, u8); 7] = [

@@ -1,4 +1,1 @@
-pub mod Fitting
-pub mod Lists
-pub mod Sound
 pub mod Typed

@@ -2,10 +2,4 @@
 #![tactic(auto)]
 
 #[cfg(test)]
-mod language;
-#[cfg(test)]
 mod marks;
-#[cfg(test)]
-mod problem;
-#[cfg(test)]
-mod rules;

@@ -5,8 +5,7 @@ ghost use Rattle.term_core.specs.Terms.{node};
 ghost use Rattle.term_core.specs.Typings.{IsBankOf};
 ghost use Rattle.eval_core.specs.ShiftExample.{shift_problem, shifts};
 
-use crate::language::{SHIFT, X, ZERO};
-use crate::problem::shift_problem;
+use example_shifts::{SHIFT, X, ZERO, shift_problem};
 use lens_core::Lens;
 use marks_core::HornMarks;
 use problem_core::Problem;

@@ -83,3 +83,15 @@ pub(crate) const RULES: &str = "(answer 1)
 (derived 1 1)
 (derived 2 2)
 ";
+
+/// Of a rule that calls its relation on the term itself.
+pub(crate) const LOOP: &str = "(answer 1)
+(term $loop)
+(size 1)
+(node 0 $loop)
+(step 0 S 0 0 (0 0) ())
+(step 1 S 0 1 (1 2 0) (0))
+(step 2 S 0 1 (2 4 2) (1))
+(step 3 S 0 1 (3 6 4) (2))
+(derived 0 3)
+";

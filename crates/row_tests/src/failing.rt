@@ -1,24 +1,30 @@
+ghost use Rattle.std.specs.Prelude.{◌<◌};
+
 use crate::running::{check_over, file_of, words_of};
-use example_files::MAX2;
+use example_files::{MAX2, MAX2_ANSWER};
 use semgus_app::{Status, run};
 use semgus_io::MemorySink;
 use std::alloc::{AllocError, Global};
 use std::process::Abort;
 use std::test::Fail;
 
+/// Solves MAX2, whose file comes in pieces of so many bytes, where this take fails, and then once more.
+fn check_take(rt: &impl Abort, alloc: Global, piece: usize, failing: u64) -> Result<(), AllocError>
+    requires { 0 < piece }
+{
+    let mut files = file_of(alloc, MAX2)?;
+    files.piece(piece);
+    files.fail_take(failing)?;
+    let line = "solve p.sl 3 6";
+    let fault = Status::ReadFault;
+    check_over(rt, alloc, line, &mut files, fault, "read fault\n")?;
+    check_over(rt, alloc, line, &mut files, Status::Found, MAX2_ANSWER)
+}
+
 #[test]
-fn a_second_take_that_fails(rt: HostRuntime) -> Result<(), Fail> {
-    let mut files = file_of(rt.alloc(), MAX2)?;
-    files.piece(100);
-    files.fail_take(2)?;
-    check_over(
-        &rt,
-        rt.alloc(),
-        "solve p.sl 3 6",
-        &mut files,
-        Status::ReadFault,
-        "read fault\n",
-    )?;
+fn a_take_that_fails(rt: HostRuntime) -> Result<(), Fail> {
+    check_take(&rt, rt.alloc(), 100, 2)?;
+    check_take(&rt, rt.alloc(), 1, 150)?;
     Ok(())
 }
 

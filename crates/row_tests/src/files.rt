@@ -30,3 +30,11 @@ pub(crate) const RULES: &str = "(declare-term-types ((E 0)) (($a)))
 (constraint (S f 2))
 (check-synth)
 ";
+
+/// No constant derives 2.
+pub(crate) const TINY_WITH_2: &str = "(declare-term-types ((E 0)) (($a)))
+(define-funs-rec ((S ((t E) (r Int)) Bool)) ((! (match t (($a (= r 1)))) :input () :output (r))))
+(synth-fun f () E)
+(constraint (S f 2))
+(check-synth)
+";

@@ -15,3 +15,7 @@ mod readings;
 mod rows;
 #[cfg(test)]
 mod running;
+#[cfg(test)]
+mod small;
+#[cfg(test)]
+mod wording;

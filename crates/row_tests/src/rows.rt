@@ -108,7 +108,9 @@ fn files_without_an_answer(rt: HostRuntime) -> Result<(), Fail> {
 }
 
 /// Words that have none of the forms.
-const BAD_WORDS: [&str; 16] = [
+const BAD_WORDS: [&str; 21] = [
+    "",
+    "solve",
     "solve p.sl 0 5",
     "solve p.sl 5 0",
     "solve p.sl 01 5",
@@ -117,6 +119,9 @@ const BAD_WORDS: [&str; 16] = [
     "solve p.sl 5 41",
     "solve p.sl 5",
     "solve p.sl -1 5",
+    "solve p.sl +1 1",
+    "solve p.sl 1 1 1",
+    "show p.sl 1 1",
     "solve p.sl 1 5 ",
     "solve  p.sl 1 5",
     "solve p.sl 1x 5",

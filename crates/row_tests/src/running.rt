@@ -13,11 +13,16 @@ pub(crate) fn words_of(alloc: Global, line: &str) -> Result<Words, AllocError> {
     Ok(words)
 }
 
+/// Files with the one of this name, which has this text.
+pub(crate) fn file_named(alloc: Global, name: &str, text: &str) -> Result<MemoryFiles, AllocError> {
+    let mut files = MemoryFiles::new(alloc);
+    files.add(name, text.as_bytes())?;
+    Ok(files)
+}
+
 /// Files with the one named `p.sl`, which has this text.
 pub(crate) fn file_of(alloc: Global, text: &str) -> Result<MemoryFiles, AllocError> {
-    let mut files = MemoryFiles::new(alloc);
-    files.add("p.sl", text.as_bytes())?;
-    Ok(files)
+    file_named(alloc, "p.sl", text)
 }
 
 /// Whether the words of the line come to this status and output over the files.

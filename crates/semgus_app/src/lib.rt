@@ -15,8 +15,6 @@ mod program;
 mod read;
 mod status;
 mod task;
-#[cfg(test)]
-mod tests;
 
 pub use answer_core::AnswerFault;
 pub use deriv_core::BadStep;

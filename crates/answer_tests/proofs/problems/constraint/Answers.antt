@@ -1,8 +1,0 @@
-use Rattle.std.proofs.Common.{sym, subst, arith}
-use Rattle.problem_core.specs.Soundness.{IsSoundConstraint}
-use Rattle.answer_tests.specs.Examples.{example, the_type}
-use Rattle.answer_tests.proofs.Sound.{constraint_sound}
-use Rattle.answer_tests.proofs.problems.constraint.Goals as goal
-
-pub returns : goal.returns
-returns c = subst (IsSoundConstraint example the_type) (sym c.in_ok-constraint.ensures) (constraint_sound c.args.value (omega (arith, c.ranges.value.fits)))

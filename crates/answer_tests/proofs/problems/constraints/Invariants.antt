@@ -1,7 +1,0 @@
-use Rattle.std.proofs.Common.{◌≡◌, length, All}
-use Rattle.problem_core.specs.Soundness.{IsSoundConstraint}
-use Rattle.answer_tests.specs.Examples.{example, the_type}
-use Rattle.answer_tests.proofs.problems.constraints.Given as goal
-
-abbrev pub invariant-loop-value : goal.invariant-loop-value
-invariant-loop-value l = All (IsSoundConstraint example the_type) l.constraints × (length l.constraints ≡ l.value-index)

@@ -1,5 +1,0 @@
-use Rattle.elab_core.proofs.FlowLaws.{rules_fit}
-use Rattle.elab_core.proofs.laws.rules_fit.Goals as goal
-
-pub returns : goal.returns
-returns c = rules_fit

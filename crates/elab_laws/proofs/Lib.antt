@@ -1,0 +1,14 @@
+pub mod Chains
+pub mod FittingAtoms
+pub mod FlowLaws
+pub mod FullAtoms
+pub mod InPlaces
+pub mod LimitOrder
+pub mod NameOrder
+pub mod NamesInOrder
+pub mod PlacedCommands
+pub mod Rising
+pub mod SortLaws
+pub mod SortOrder
+pub mod SortPlaces
+pub mod SpelledPlaces

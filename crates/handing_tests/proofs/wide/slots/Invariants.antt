@@ -1,6 +1,0 @@
-use Rattle.std.proofs.Common.{All}
-use Rattle.rule_core.specs.Rulebooks.{IsSmall}
-use Rattle.handing_tests.proofs.wide.slots.Given as goal
-
-abbrev pub invariant-loop-number : goal.invariant-loop-number
-invariant-loop-number l = All IsSmall l.kids

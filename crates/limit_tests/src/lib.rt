@@ -1,0 +1,5 @@
+//! Tests of the limits of files.
+#![tactic(auto)]
+
+#[cfg(test)]
+mod limits;
