@@ -2,11 +2,11 @@
 ghost use Rattle.std.specs.Prelude.{◌≡◌, ◌≤◌, ◌+◌, length, All, IfOk, OnOk};
 ghost use Rattle.eval_core.specs.Evaluations.{IsAccepted};
 ghost use Rattle.rule_core.specs.Rulebooks.{HasSmallParts};
-ghost use Rattle.outcome_tests.specs.Rules.{IsShort};
+ghost use Rattle.example_atoms.specs.Rules.{IsShort};
 
 use crate::evaluating::{Given, Question, add, expect, found};
 use crate::relations::add_binary;
-use crate::rules::{call_child, choice, fill, giving, over_two, put, rule, variables};
+use example_atoms::{call_child, choice, fill, giving, over_two, put, rule, variables};
 use example_terms::{B, E, Language, Node, signature_of};
 use expr_core::{Expr, Op};
 use rule_core::{AddError, Atoms, Rule, Rulebook};

@@ -4,7 +4,7 @@ ghost use Rattle.sig_core.specs.Signatures.{inputs_of, kinds_of, plain_sorts, te
 ghost use Rattle.sig_core.specs.Values.{sort_of};
 ghost use Rattle.rule_core.specs.Rulebooks.{IsRuleOf};
 ghost use Rattle.eval_core.specs.Outcomes.{AreInputs};
-ghost use Rattle.outcome_tests.specs.Rules.{IsShort};
+ghost use Rattle.example_atoms.specs.Rules.{IsShort};
 
 use rule_core::Rule;
 use sig_core::{Kind, Param, RelId, Signature, Sort, TypeId, Value, count_plain};

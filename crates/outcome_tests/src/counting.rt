@@ -1,11 +1,11 @@
 //! At x the relation gives 0 where x is at most 0, and else 2 more than at x - 1.
 ghost use Rattle.std.specs.Prelude.{All, IfOk};
 ghost use Rattle.eval_core.specs.Evaluations.{IsAccepted};
-ghost use Rattle.outcome_tests.specs.Rules.{IsShort};
+ghost use Rattle.example_atoms.specs.Rules.{IsShort};
 
 use crate::evaluating::{Given, Question, add, expect, found};
 use crate::relations::add_unary;
-use crate::rules::{call_itself, fill, number, over_number, put, rule, test, variables};
+use example_atoms::{call_itself, fill, number, over_number, put, rule, test, variables};
 use example_terms::{E, LEAF, Language, signature_of};
 use expr_core::Op;
 use rule_core::{AddError, Atoms, Rule, Rulebook};

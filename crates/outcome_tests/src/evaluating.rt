@@ -2,7 +2,7 @@ ghost use Rattle.std.specs.Prelude.{◌≡◌, ◌≤◌, ◌+◌, length, All, 
 ghost use Rattle.term_core.specs.Banks.{IsLive, tree_of};
 ghost use Rattle.eval_core.specs.Evaluations.{IsAccepted, StandsFor};
 ghost use Rattle.eval_core.specs.Outcomes.{AreInputs, AreOutcomes};
-ghost use Rattle.outcome_tests.specs.Rules.{IsShort};
+ghost use Rattle.example_atoms.specs.Rules.{IsShort};
 
 use crate::conditions::{expect_inputs, expect_rule};
 use eval_core::{Evaluator, Outcome, Outcomes};

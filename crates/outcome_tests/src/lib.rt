@@ -12,8 +12,6 @@ mod evaluating;
 #[cfg(test)]
 mod relations;
 #[cfg(test)]
-mod rules;
-#[cfg(test)]
 mod summing;
 #[cfg(test)]
 mod tossing;

@@ -2,11 +2,11 @@
 ghost use Rattle.std.specs.Prelude.{◌≤◌, ◌+◌, length, All, IfOk};
 ghost use Rattle.rule_core.specs.Rulebooks.{HasSmallParts};
 ghost use Rattle.eval_core.specs.Evaluations.{IsAccepted};
-ghost use Rattle.outcome_tests.specs.Rules.{IsShort};
+ghost use Rattle.example_atoms.specs.Rules.{IsShort};
 
 use crate::evaluating::{Given, Question, add, expect, found};
 use crate::relations::add_unary;
-use crate::rules::{call_itself, fill, over_number, over_two, put, rule, test, variables};
+use example_atoms::{call_itself, fill, over_number, over_two, put, rule, test, variables};
 use example_terms::{E, LEAF, Language, signature_of};
 use expr_core::{Expr, Op};
 use rule_core::{AddError, Atoms, Rule, Rulebook};

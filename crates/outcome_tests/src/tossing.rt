@@ -4,7 +4,7 @@ ghost use Rattle.eval_core.specs.Evaluations.{IsAccepted};
 
 use crate::evaluating::{Given, Question, add, expect, found};
 use crate::relations::add_constant;
-use crate::rules::{giving, number};
+use example_atoms::{giving, number};
 use example_terms::{E, LEAF, Language, signature_of};
 use rule_core::{AddError, Rulebook};
 use sig_core::{ConId, RelId, SigError, Signature};

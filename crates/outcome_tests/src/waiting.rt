@@ -1,11 +1,11 @@
 //! A term that asks another relation of itself.
 ghost use Rattle.std.specs.Prelude.{All, IfOk};
 ghost use Rattle.eval_core.specs.Evaluations.{IsAccepted};
-ghost use Rattle.outcome_tests.specs.Rules.{IsShort};
+ghost use Rattle.example_atoms.specs.Rules.{IsShort};
 
 use crate::evaluating::{Given, Question, add, expect, found};
 use crate::relations::add_unary;
-use crate::rules::{call_itself, fill, giving, put, rule, variables};
+use example_atoms::{call_itself, fill, giving, put, rule, variables};
 use example_terms::{E, LEAF, Language, signature_of};
 use expr_core::Expr;
 use rule_core::{AddError, Atoms, Rule, Rulebook};

@@ -1,7 +1,7 @@
 ghost use Rattle.std.specs.Prelude.{◌<◌, ◌≤◌, ◌+◌, ◌^◌, length, All, IfOk, OnOk};
 ghost use Rattle.expr_core.specs.Expressions.{node_count};
 ghost use Rattle.rule_core.specs.Rulebooks.{HasSmallParts, IsSmall};
-ghost use Rattle.outcome_tests.specs.Rules.{IsShort};
+ghost use Rattle.example_atoms.specs.Rules.{IsShort};
 
 use expr_core::{Expr, Kids, Op};
 use rule_core::{Atom, Atoms, Call, Names, Rule, Var, Vars, Who};
