@@ -22,13 +22,13 @@ use Rattle.name_core.specs.Faults.{first, shapes}
 use Rattle.name_core.specs.Names.{term_pairs}
 use Rattle.name_core.proofs.LimitFacts.{no_items}
 use Rattle.sort_core.specs.Sorts.{declaration_faults}
-use Rattle.elab_core.proofs.Apart.{apart_conjuncts}
+use Rattle.making_core.proofs.Apart.{apart_conjuncts}
 use Rattle.elab_core.proofs.CaseNames.{HasApartCases}
-use Rattle.elab_core.proofs.Conjunctions.{IsApart}
-use Rattle.elab_core.proofs.EachAtom.{definitions_hold}
-use Rattle.elab_core.proofs.Fits.{none-left}
-use Rattle.elab_core.proofs.Fits as fits
-use Rattle.elab_core.proofs.ShapedForms.{Nests, at_each, false_true, fit_of, has_its_shape, item_shape, items_nest, list_item, passes_parts}
+use Rattle.making_core.proofs.Conjunctions.{IsApart}
+use Rattle.making_core.proofs.EachAtom.{definitions_hold}
+use Rattle.making_core.proofs.Fits.{none-left}
+use Rattle.making_core.proofs.Fits as fits
+use Rattle.making_core.proofs.ShapedForms.{Nests, at_each, false_true, fit_of, has_its_shape, item_shape, items_nest, list_item, passes_parts}
 
 -- Commands of another word.
 

@@ -11,8 +11,8 @@ use Rattle.name_core.specs.Bodies.{Branch, branches_of}
 use Rattle.name_core.specs.Names.{names_in, texts}
 use Rattle.name_core.proofs.LimitFacts.{BranchFits, CaseFits, FunctionFits}
 use Rattle.name_core.proofs.NameFacts.{BranchNamed, CaseNamed, DeclarationNamed, DefinitionNamed, IsFree}
-use Rattle.elab_core.proofs.Conjunctions.{IsApart}
-use Rattle.elab_core.proofs.EachAtom.{HasAtoms, HasCases, HasRules}
+use Rattle.making_core.proofs.Conjunctions.{IsApart}
+use Rattle.making_core.proofs.EachAtom.{HasAtoms, HasCases, HasRules}
 use Rattle.elab_core.proofs.RuleSoundness.{HasNamedCases, IsNamed}
 
 -- each `and` among the atoms is taken apart

@@ -35,17 +35,17 @@ use Rattle.sort_core.specs.Sorts.{declaration_faults, definition_faults, functio
 use Rattle.sort_core.proofs.Faultless.{none_each}
 use Rattle.elab_core.specs.Elaborating.{IsTaken}
 use Rattle.elab_core.specs.Judging.{faults_in, flow, may_come}
-use Rattle.elab_core.specs.Making.{added}
-use Rattle.elab_core.specs.Rules.{HasFewPlain, HasRules, case_flow, case_rules, functions_flow, rule_of, rules_of}
-use Rattle.elab_core.specs.Soundness.{IsSoundState}
+use Rattle.making_core.specs.Making.{added}
+use Rattle.making_core.specs.Rules.{HasFewPlain, HasRules, case_flow, case_rules, functions_flow, rule_of, rules_of}
+use Rattle.making_core.specs.Soundness.{IsSoundState}
 use Rattle.elab_core.proofs.ApartFunctions.{functions_apart}
 use Rattle.elab_core.proofs.CaseNames.{functions_named}
-use Rattle.elab_core.proofs.Fits.{none-left, none-right}
+use Rattle.making_core.proofs.Fits.{none-left, none-right}
 use Rattle.elab_core.proofs.Growing.{wanted_still}
 use Rattle.elab_core.proofs.Relating.{free_still, names_still, rules_still}
-use Rattle.elab_core.proofs.RuleFacts.{IsTested, are_declared, functions_count, functions_have_few_plain, functions_have_rules, narrow_cases, tested_functions}
+use Rattle.making_core.proofs.RuleFacts.{IsTested, are_declared, functions_count, functions_have_few_plain, functions_have_rules, narrow_cases, tested_functions}
 use Rattle.elab_core.proofs.RuleSoundness.{HasNamedCases, functions_sound}
-use Rattle.elab_core.proofs.Weights.{HasLightCases, light_functions}
+use Rattle.making_core.proofs.Weights.{HasLightCases, light_functions}
 
 -- the tests of limits, of names and of declarations have found nothing
 pub record ArePassed (sig : Declarations) (rules : ℕ) (functions : List Function) : Type 0 where

@@ -36,16 +36,16 @@ use Rattle.name_core.proofs.NameFacts.{WantedNamed, wanted_named}
 use Rattle.sort_core.specs.Relations.{type_named}
 use Rattle.sort_core.specs.Sorts.{start_faults, wanted_faults}
 use Rattle.elab_core.specs.Elaborating.{IsTaken}
-use Rattle.elab_core.specs.Fitting.{GroupsOfFit, WantedFits, with_nonterminals}
+use Rattle.making_core.specs.Fitting.{GroupsOfFit, WantedFits, with_nonterminals}
 use Rattle.elab_core.specs.Judging.{faults_in, may_come}
-use Rattle.elab_core.specs.Making.{added, grammar_of, nonterminal_of, wanted_of}
-use Rattle.elab_core.specs.Soundness.{IsSoundState, IsSoundWanted}
-use Rattle.elab_core.proofs.Filled.{bare, bare_all, group_productions}
-use Rattle.elab_core.proofs.Fits.{none-left, none-right, passes}
-use Rattle.elab_core.proofs.GrammarFits.{groups_fit, nonterminals_fit}
+use Rattle.making_core.specs.Making.{added, grammar_of, nonterminal_of, wanted_of}
+use Rattle.making_core.specs.Soundness.{IsSoundState, IsSoundWanted}
+use Rattle.making_core.proofs.Filled.{bare, bare_all, group_productions}
+use Rattle.making_core.proofs.Fits.{none-left, none-right, passes}
+use Rattle.making_core.proofs.GrammarFits.{groups_fit, nonterminals_fit}
 use Rattle.elab_core.proofs.Groupings.{HasGroups, IsOfWord, has_groups}
-use Rattle.elab_core.proofs.Productions.{IsMade, IsMadeGroup, groups_made, makes_over, makes_same, owners_of, types_of}
-use Rattle.elab_core.proofs.Terms.{number_within}
+use Rattle.making_core.proofs.Productions.{IsMade, IsMadeGroup, groups_made, makes_over, makes_same, owners_of, types_of}
+use Rattle.making_core.proofs.Terms.{number_within}
 
 -- A grammar of nonterminals and groups.
 

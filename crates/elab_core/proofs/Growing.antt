@@ -22,7 +22,7 @@ use Rattle.rule_core.specs.Flow.{fault_at, fault_from, fits, known_after}
 use Rattle.problem_core.specs.Soundness.{HasFreeNames, HasShortNames, IsShort, IsSoundRule, is_sort_name}
 use Rattle.name_core.specs.Faults.{first, found_from, past}
 use Rattle.name_core.specs.Limits.{constructor_limits, long_name, type_limits, types_limits}
-use Rattle.elab_core.specs.Making.{added, constructor_of, constructors_of, with_terms, with_types}
+use Rattle.making_core.specs.Making.{added, constructor_of, constructors_of, with_terms, with_types}
 use Rattle.name_core.specs.Names.{has, sort_names, texts}
 use Rattle.name_core.proofs.Having.{has-sorts}
 use Rattle.name_core.proofs.NameFacts.{TypesNamed, types_named}
@@ -32,9 +32,9 @@ use Rattle.elab_core.specs.Elaborating.{IsTaken}
 use Rattle.elab_core.specs.Judging.{faults_in, may_come}
 use Rattle.name_core.specs.Limits.{limits}
 use Rattle.name_core.specs.Names.{names}
-use Rattle.elab_core.specs.Soundness.{IsSoundState, IsSoundWanted}
+use Rattle.making_core.specs.Soundness.{IsSoundState, IsSoundWanted}
 use Rattle.name_core.specs.States.{State, Wanted}
-use Rattle.elab_core.proofs.Fits.{none-left, none-right}
+use Rattle.making_core.proofs.Fits.{none-left, none-right}
 
 -- the signature with these types and constructors after its own
 abbrev pub grown : Declarations → List (List ℕ) → List Constructor → Declarations

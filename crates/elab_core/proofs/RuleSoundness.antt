@@ -41,18 +41,18 @@ use Rattle.name_core.specs.Faults.{bad_if, first, found_from}
 use Rattle.name_core.specs.Names.{names_in, plain_pairs, texts}
 use Rattle.sort_core.specs.Opens.{opened, variables_of, within}
 use Rattle.sort_core.specs.Relations.{param_of}
-use Rattle.elab_core.specs.Rules.{atom_of, atoms_from, branch_flow, call_atom, case_flow, case_rules, equation_atom, expr_of, expr_of_node, flow_refusal, input_args, output_args, rule_of, var_of}
+use Rattle.making_core.specs.Rules.{atom_of, atoms_from, branch_flow, call_atom, case_flow, case_rules, equation_atom, expr_of, expr_of_node, flow_refusal, input_args, output_args, rule_of, var_of}
 use Rattle.sort_core.specs.Sorts.{argument_faults, argument_faults_at, atom_faults, atom_faults_in, branch_faults, case_faults, constructor_at, faults_as, is_term_of, matched_type, pattern_faults, same_stated, sorts_of, survey, survey_of_node}
-use Rattle.elab_core.proofs.BranchWidths.{no_more_around}
-use Rattle.elab_core.proofs.CleanRules.{IsClean, IsFine, apply_fine, clean-Call, clean_exp}
-use Rattle.elab_core.proofs.Conjunctions.{IsApart, opened_apart}
-use Rattle.elab_core.proofs.Exprs.{expr-Apply}
+use Rattle.making_core.proofs.BranchWidths.{no_more_around}
+use Rattle.making_core.proofs.CleanRules.{IsClean, IsFine, apply_fine, clean-Call, clean_exp}
+use Rattle.making_core.proofs.Conjunctions.{IsApart, opened_apart}
+use Rattle.making_core.proofs.Exprs.{expr-Apply}
 use Rattle.sort_core.proofs.Faultless.{none_both, none_each, none_parts}
 use Rattle.name_core.proofs.Firsts.{first-found_from}
 use Rattle.elab_core.proofs.Relating.{params_named}
-use Rattle.elab_core.proofs.RuleFacts.{AreDeclared, IsDeclared, IsTested, case_made, here, later, rule_fits}
-use Rattle.elab_core.proofs.Smallness.{All-input_args, All-output_args, atom_cases, atoms_each, equation_cases, is_apply, parts_each, parts_in, parts_of_node}
-use Rattle.elab_core.proofs.Weights.{IsLight}
+use Rattle.making_core.proofs.RuleFacts.{AreDeclared, IsDeclared, IsTested, case_made, here, later, rule_fits}
+use Rattle.making_core.proofs.Smallness.{All-input_args, All-output_args, atom_cases, atoms_each, equation_cases, is_apply, parts_each, parts_in, parts_of_node}
+use Rattle.making_core.proofs.Weights.{IsLight}
 
 -- Where the sorts of an atom are right, so are those of its arguments.
 

@@ -38,15 +38,15 @@ use Rattle.syntax_core.specs.Syntax.{calls_of, deepest}
 use Rattle.elab_core.specs.Elaborating.{IsTaken}
 use Rattle.elab_core.specs.Judging.{faults_in}
 use Rattle.name_core.specs.Limits.{call_limits}
-use Rattle.elab_core.specs.Soundness.{IsSoundState, IsSoundWanted}
+use Rattle.making_core.specs.Soundness.{IsSoundState, IsSoundWanted}
 use Rattle.name_core.specs.States.{State, Wanted}
-use Rattle.elab_core.specs.Making.{added, constraint_of, value_of_argument}
+use Rattle.making_core.specs.Making.{added, constraint_of, value_of_argument}
 use Rattle.name_core.specs.Names.{call_names, example_names, has, unknown_name}
 use Rattle.sort_core.specs.Opens.{relation_named}
-use Rattle.elab_core.specs.Rules.{plain_args, value_of_literal}
+use Rattle.making_core.specs.Rules.{plain_args, value_of_literal}
 use Rattle.sort_core.specs.Sorts.{are_of_type, example_argument, example_argument_at, example_faults_of, examples_faults, is_literal_of, range_faults}
-use Rattle.elab_core.proofs.Fits.{none-left, none-right, passes, within_limit}
-use Rattle.elab_core.proofs.Terms.{number_within}
+use Rattle.making_core.proofs.Fits.{none-left, none-right, passes, within_limit}
+use Rattle.making_core.proofs.Terms.{number_within}
 
 -- A literal of the sort.
 

@@ -11,9 +11,9 @@ use Rattle.sort_core.specs.declared.error.ElabError.TheVariants as error
 use Rattle.syntax_core.specs.declared.commands.Head.{Head}
 use Rattle.name_core.specs.Faults.{first}
 use Rattle.elab_core.specs.Judging.{Outcome, stands, refused, closed, command_fault, faults_in, judged, may_come, step}
-use Rattle.elab_core.specs.Making.{added}
+use Rattle.making_core.specs.Making.{added}
 use Rattle.name_core.specs.States.{State}
-use Rattle.elab_core.specs.Soundness.{IsSoundState}
+use Rattle.making_core.specs.Soundness.{IsSoundState}
 
 -- the outcome of the commands so far; none once memory was wanted
 abbrev pub outcome_in : Standing → Option Outcome

@@ -14,9 +14,9 @@ use Rattle.syntax_core.specs.Shapes.{first_item, refusal}
 use Rattle.syntax_core.specs.Syntax.{functions_of}
 use Rattle.name_core.specs.Faults.{first, shapes}
 use Rattle.name_core.specs.Limits.{limits}
-use Rattle.elab_core.specs.Making.{added}
+use Rattle.making_core.specs.Making.{added}
 use Rattle.name_core.specs.Names.{names}
-use Rattle.elab_core.specs.Rules.{functions_flow}
+use Rattle.making_core.specs.Rules.{functions_flow}
 use Rattle.sort_core.specs.Sorts.{sorts}
 use Rattle.name_core.specs.States.{State, Wanted, start}
 

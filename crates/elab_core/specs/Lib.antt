@@ -1,7 +1,3 @@
-pub mod Rules
-pub mod Making
-pub mod Fitting
 pub mod Judging
 pub mod Elaborating
-pub mod Soundness
 pub mod Feeding

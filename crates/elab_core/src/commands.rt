@@ -2,8 +2,8 @@
 ghost use Rattle.std.specs.Prelude.{◌≡◌, [], ◌∷◌, ◌++◌, Ok, Err, true, IsTrue, is_some, IfOk, IfErr, OnOk};
 ghost use Rattle.std.specs.Option.{option_map_or};
 ghost use Rattle.elab_core.specs.Judging.{command_fault, judged, may_come};
-ghost use Rattle.elab_core.specs.Making.{info_of, added};
-ghost use Rattle.elab_core.specs.Soundness.{IsSoundState};
+ghost use Rattle.making_core.specs.Making.{info_of, added};
+ghost use Rattle.making_core.specs.Soundness.{IsSoundState};
 ghost use Rattle.sexpr_core.specs.declared.form.Sexpr.{Sexpr};
 ghost use Rattle.syntax_core.specs.declared.commands.Head.TheVariants.{SetInfo, CheckSynth};
 

@@ -6,14 +6,14 @@ ghost use Rattle.sort_core.specs.Errors.{IsDue};
 ghost use Rattle.name_core.specs.Faults.{first, found_from};
 ghost use Rattle.elab_core.specs.Judging.{faults_in};
 ghost use Rattle.name_core.specs.Limits.{call_limits};
-ghost use Rattle.elab_core.specs.Making.{added, constraint_of};
+ghost use Rattle.making_core.specs.Making.{added, constraint_of};
 ghost use Rattle.name_core.specs.Names.{call_names};
-ghost use Rattle.elab_core.specs.Soundness.{IsSoundState};
+ghost use Rattle.making_core.specs.Soundness.{IsSoundState};
 ghost use Rattle.sort_core.specs.Sorts.{example_faults_of};
 ghost use Rattle.syntax_core.specs.declared.commands.Head.TheVariants as head;
 
-use crate::examples::constraint_of;
 use crate::stated::{StatedParts, WantedFunction};
+use making_core::constraint_of;
 use name_core::{calls_limit, calls_name};
 use problem_core::Constraints;
 use sexpr_core::{Sexpr, item_of};

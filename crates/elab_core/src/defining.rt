@@ -15,11 +15,11 @@ ghost use Rattle.sort_core.specs.Errors.{IsDue};
 ghost use Rattle.sort_core.specs.Sorts.{declaration_faults};
 ghost use Rattle.elab_core.specs.Elaborating.{IsTaken};
 ghost use Rattle.elab_core.specs.Judging.{faults_in, may_come};
-ghost use Rattle.elab_core.specs.Making.{added};
-ghost use Rattle.elab_core.specs.Soundness.{IsSoundState};
+ghost use Rattle.making_core.specs.Making.{added};
+ghost use Rattle.making_core.specs.Soundness.{IsSoundState};
 
-use crate::flow::add_cases;
 use crate::stated::StatedParts;
+use making_core::add_cases;
 use name_core::{Reading, limit_fault, name_fault, reading_of};
 use sexpr_core::Sexpr;
 use sort_core::{ElabError, declarations_fault, open_functions};

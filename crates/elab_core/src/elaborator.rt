@@ -3,7 +3,7 @@ ghost use Rattle.sort_core.specs.declared.error.ElabError.TheVariants as Error;
 ghost use Rattle.syntax_core.specs.declared.fault.Fault;
 ghost use Rattle.elab_core.specs.Elaborating.{IsNotTaken, IsRefusedAfter, IsSoundStanding, answered, fault_in, is_standing, made, next, outcome_in, standing_after};
 ghost use Rattle.elab_core.specs.Judging.{closed, refused, stands};
-ghost use Rattle.elab_core.specs.Soundness.{IsSoundState};
+ghost use Rattle.making_core.specs.Soundness.{IsSoundState};
 ghost use Rattle.name_core.specs.States.{start};
 ghost use Rattle.sexpr_core.specs.Sizes.{IsSmall};
 

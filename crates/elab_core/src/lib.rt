@@ -3,21 +3,16 @@
 
 mod commands;
 mod constraints;
+mod declaring;
 mod defining;
 mod elaborator;
-mod examples;
-mod flow;
-mod grammars;
 mod judge;
 mod laws;
-mod making;
-mod relations;
-mod rules;
 mod stated;
 mod taking;
 mod taking_terms;
 mod taking_wanted;
-mod types;
+mod wanting;
 
 pub use elaborator::Elaborator;
 pub use judge::Judge;

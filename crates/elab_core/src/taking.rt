@@ -4,7 +4,7 @@ ghost use Rattle.elab_core.specs.Elaborating.{IsJudgedAs, IsRefusal, IsTaken};
 ghost use Rattle.sort_core.specs.Errors.{IsDue};
 ghost use Rattle.name_core.specs.Faults.{first, shapes};
 ghost use Rattle.elab_core.specs.Judging.{faults_in, stands, step};
-ghost use Rattle.elab_core.specs.Soundness.{IsSoundState};
+ghost use Rattle.making_core.specs.Soundness.{IsSoundState};
 ghost use Rattle.sexpr_core.specs.Sizes.{IsSmall};
 
 use crate::stated::StatedParts;

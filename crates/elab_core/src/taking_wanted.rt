@@ -2,7 +2,7 @@
 ghost use Rattle.std.specs.Prelude.{◌≡◌, None, true, IfOk, OnOk, IfErr};
 ghost use Rattle.elab_core.specs.Elaborating.{IsJudgedAs, IsTaken};
 ghost use Rattle.elab_core.specs.Judging.{faults_in, may_come};
-ghost use Rattle.elab_core.specs.Soundness.{IsSoundState};
+ghost use Rattle.making_core.specs.Soundness.{IsSoundState};
 ghost use Rattle.name_core.specs.Faults.{first, shapes};
 ghost use Rattle.sort_core.specs.Errors.{IsDue};
 ghost use Rattle.syntax_core.specs.declared.commands.Head.TheVariants as head;

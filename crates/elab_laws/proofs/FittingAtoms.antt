@@ -50,9 +50,9 @@ use Rattle.sort_core.specs.Opens.{opened}
 use Rattle.sort_core.specs.Sorts.{Survey, argument_faults, argument_faults_at, atom_faults, atom_faults_in, call_faults, faults_as, is_term_in, is_term_of, operand_faults_at, same_stated, stated_at, survey, survey_of_node}
 use Rattle.sort_core.proofs.Faultless.{holds, none_both, none_parts}
 use Rattle.sort_core.proofs.Surveys.{survey-Apply}
-use Rattle.elab_core.specs.Rules.{atom_of, atoms_from, call_atom, equation_atom, expr_of, expr_of_node, filled_slot, input_args, output_args, term_args, who_in, who_of}
-use Rattle.elab_core.proofs.Exprs.{expr-Apply, expr-Call}
-use Rattle.elab_core.proofs.Smallness.{atom_cases, equation_cases, is_apply, parts_each, parts_in, parts_of_node}
+use Rattle.making_core.specs.Rules.{atom_of, atoms_from, call_atom, equation_atom, expr_of, expr_of_node, filled_slot, input_args, output_args, term_args, who_in, who_of}
+use Rattle.making_core.proofs.Exprs.{expr-Apply, expr-Call}
+use Rattle.making_core.proofs.Smallness.{atom_cases, equation_cases, is_apply, parts_each, parts_in, parts_of_node}
 use Rattle.elab_laws.specs.Flowing.{IsUnknown, existential, output, used}
 use Rattle.elab_laws.proofs.SortLaws.{IsSorted, all_full, full-Apply, have_sorts, is_full, placed_as, sorted_exp}
 

@@ -58,14 +58,14 @@ use Rattle.sort_core.specs.Relations.{declared_with, kind_of, relation_of, sort_
 use Rattle.sort_core.specs.Sorts.{atom_faults, branch_faults, case_faults, constructor_at, declaration_faults, definition_faults, matched_type, pattern_faults, sorts, sorts_of}
 use Rattle.sort_core.proofs.Faultless.{is_true, none_each, none_parts, not_bad}
 use Rattle.sort_core.proofs.TermTypes.{kinds_of_params}
-use Rattle.elab_core.specs.Fitting.{RelationsFit}
-use Rattle.elab_core.specs.Rules.{atom_of, rule_of, var_of}
-use Rattle.elab_core.specs.Soundness.{IsSoundState}
-use Rattle.elab_core.proofs.Counts.{Negation, Operation, applied, kept, minus, negation, opened-Apply, opened-Negative, opened-Numeral, opened-Symbol, operation, turned}
-use Rattle.elab_core.proofs.Declaring.{relations_fit}
-use Rattle.elab_core.proofs.ExpInduction.{by_arguments}
-use Rattle.elab_core.proofs.RuleFacts.{AreDeclared, IsDeclared, are_declared, here, later}
-use Rattle.elab_core.proofs.Terms.{number_within}
+use Rattle.making_core.specs.Fitting.{RelationsFit}
+use Rattle.making_core.specs.Rules.{atom_of, rule_of, var_of}
+use Rattle.making_core.specs.Soundness.{IsSoundState}
+use Rattle.making_core.proofs.Counts.{Negation, Operation, applied, kept, minus, negation, opened-Apply, opened-Negative, opened-Numeral, opened-Symbol, operation, turned}
+use Rattle.making_core.proofs.Declaring.{relations_fit}
+use Rattle.making_core.proofs.ExpInduction.{by_arguments}
+use Rattle.making_core.proofs.RuleFacts.{AreDeclared, IsDeclared, are_declared, here, later}
+use Rattle.making_core.proofs.Terms.{number_within}
 use Rattle.elab_laws.specs.Flowing.{HasFittingAtoms, IsTestedDefinition, RulesFit}
 use Rattle.elab_laws.proofs.FittingAtoms.{CallsKnown, atom_fits, atoms_fine}
 use Rattle.elab_laws.proofs.FullAtoms.{HasFullAtoms, HasFullCases, HasFullRules, functions_full}

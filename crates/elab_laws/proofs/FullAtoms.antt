@@ -27,9 +27,9 @@ use Rattle.syntax_core.specs.Shapes.{HasShape}
 use Rattle.syntax_core.specs.Syntax.{application_of, begins, deepest, expression_of, expression_of_nest, functions_from, functions_of, negated_numeral}
 use Rattle.name_core.specs.Bodies.{Branch}
 use Rattle.name_core.specs.Faults.{first, shapes}
-use Rattle.elab_core.proofs.EachAtom.{HasAtoms, HasCases, HasRules, HoldsOfConjuncts, definitions_hold}
-use Rattle.elab_core.proofs.FormInduction.{by_items}
-use Rattle.elab_core.proofs.ShapedForms.{Nests, at_each, due_next, false_true, fit_of, has_its_shape, headed_list, item_shape, items_nest, nesting-List, parts-List, passes_parts, read-Keyword, read-List, read-Numeral, read-Symbol, read-Text, symbol_read}
+use Rattle.making_core.proofs.EachAtom.{HasAtoms, HasCases, HasRules, HoldsOfConjuncts, definitions_hold}
+use Rattle.making_core.proofs.FormInduction.{by_items}
+use Rattle.making_core.proofs.ShapedForms.{Nests, at_each, due_next, false_true, fit_of, has_its_shape, headed_list, item_shape, items_nest, nesting-List, parts-List, passes_parts, read-Keyword, read-List, read-Numeral, read-Symbol, read-Text, symbol_read}
 use Rattle.elab_laws.proofs.SortLaws.{full-Apply, full-Negative, full-Numeral, full-Symbol, is_full}
 
 -- Shapes.

@@ -26,7 +26,7 @@ use Rattle.syntax_core.specs.Syntax.{atom_of, begins, body_of, case_of, conjunct
 use Rattle.name_core.specs.Bodies.{Node, bound, bound_after, leaf, nodes_of, nodes_within}
 use Rattle.name_core.proofs.LimitFacts.{no_items}
 use Rattle.name_core.proofs.WalkLaws.{nodes-Fork, nodes-Leaf}
-use Rattle.elab_core.proofs.ShapedForms.{due_next, false_true, fit_of, item_shape, listed}
+use Rattle.making_core.proofs.ShapedForms.{due_next, false_true, fit_of, item_shape, listed}
 use Rattle.elab_laws.proofs.Chains.{Chain, Such, all_at, chain_flat, chain_higher, chain_joined, chain_lower, chain_map, span_others, span_parts, span_place, spans_chain, such_chain}
 use Rattle.elab_laws.proofs.SpelledPlaces.{SpanAll, Spans, level_within}
 

@@ -22,7 +22,7 @@ use Rattle.name_core.specs.Bodies.{Node, Site, bound, leaf, leaf_count, nodes_of
 use Rattle.name_core.specs.Faults.{first, found, found_from, past, shapes}
 use Rattle.name_core.specs.Limits.{call_limits, case_limits, constructor_limits, declaration_limits, functions_limits, limits, long_name, node_limits, pair_limits, pairs_limits, production_limits, type_limits, types_limits, wanted_limits}
 use Rattle.name_core.specs.States.{State}
-use Rattle.elab_core.proofs.ShapedForms.{false_true, fit_of, has_its_shape, item_shape, listed, passes_parts}
+use Rattle.making_core.proofs.ShapedForms.{false_true, fit_of, has_its_shape, item_shape, listed, passes_parts}
 use Rattle.elab_laws.specs.Places.{AreInOrder, places_in}
 use Rattle.elab_laws.proofs.Chains.{Chain, InOrder, Such, all_at, chain_flat, chain_higher, chain_lower, chain_map, faults_after, faults_each, faults_from, nothing, order_joined, order_lower, span_others, span_parts, span_place, spans_chain, such_chain}
 use Rattle.elab_laws.proofs.InPlaces.{AtomIn, NodeIn, PairIn, filled, items_chain, pair_in, pairs_chain, three_items}

@@ -34,8 +34,8 @@ use Rattle.syntax_core.proofs.Misfitting.{parts-List}
 use Rattle.name_core.specs.Bodies.{Node, bound, leaf, nodes_of}
 use Rattle.name_core.specs.Faults.{bad_if, first, found}
 use Rattle.name_core.specs.Names.{are_listed, attribute_names, attributes_of, case_names, declaration_names, definition_names, expression_names, function_names, functions_names, has, names_in, node_names, parameter_names, plain_pairs, sort_names, taken_name, term_pairs, texts, unfit_name, unknown_name}
-use Rattle.elab_core.proofs.FormInduction.{by_items}
-use Rattle.elab_core.proofs.ShapedForms.{at-Keyword, at-List, at-Symbol, at-Text, fit_of}
+use Rattle.making_core.proofs.FormInduction.{by_items}
+use Rattle.making_core.proofs.ShapedForms.{at-Keyword, at-List, at-Symbol, at-Text, fit_of}
 use Rattle.elab_laws.specs.Places.{places_in}
 use Rattle.elab_laws.proofs.Chains.{Chain, InOrder, Such, chain_lower, faults_after, faults_each, nothing, order_joined, order_lower, span_place, spans_chain}
 use Rattle.elab_laws.proofs.InPlaces.{AtomIn, CaseIn, ExpIn, NodeIn, PairIn, PatternIn, exps_chain, pattern_in}

@@ -26,8 +26,8 @@ use Rattle.syntax_core.proofs.ListExps.{expression-Keyword, expression-Numeral, 
 use Rattle.name_core.specs.Faults.{bad_if, first, found, shapes}
 use Rattle.name_core.specs.Names.{argument_names, call_names, constructors_in, example_names, group_names, groups_of, has, names, names_in, nonterminal_names, production_names, sort_names, taken_name, texts, types_names, unhad_name, unknown_name, wanted_names}
 use Rattle.name_core.specs.States.{State, Wanted}
-use Rattle.elab_core.proofs.FormInduction.{by_items}
-use Rattle.elab_core.proofs.ShapedForms.{at-Keyword, at-Symbol, at-Text, false_true, fit_of, listed}
+use Rattle.making_core.proofs.FormInduction.{by_items}
+use Rattle.making_core.proofs.ShapedForms.{at-Keyword, at-Symbol, at-Text, false_true, fit_of, listed}
 use Rattle.elab_laws.specs.Places.{AreInOrder, places_in}
 use Rattle.elab_laws.proofs.Chains.{Chain, InOrder, Such, chain_flat, chain_higher, chain_lower, chain_map, faults_after, faults_each, nothing, order_joined, span_place}
 use Rattle.elab_laws.proofs.InPlaces.{AtomIn, ExpIn, PairIn, PatternIn, items_chain, pairs_chain, pattern_in, shape_of_item, three_items}

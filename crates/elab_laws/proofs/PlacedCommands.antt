@@ -15,7 +15,7 @@ use Rattle.syntax_core.specs.Shapes.{HasShape}
 use Rattle.syntax_core.specs.Syntax.{case_of, declaration_of, definition_of, functions_from, has_outputs_first, pairs_of, symbols_of}
 use Rattle.name_core.specs.Bodies.{Site, sites_of}
 use Rattle.name_core.specs.Names.{attributes_of}
-use Rattle.elab_core.proofs.ShapedForms.{false_true, fit_of, item_shape, listed, passes_parts}
+use Rattle.making_core.proofs.ShapedForms.{false_true, fit_of, item_shape, listed, passes_parts}
 use Rattle.elab_laws.specs.Places.{places_in}
 use Rattle.elab_laws.proofs.Chains.{Chain, Such, all_at, chain_flat, chain_higher, chain_joined, chain_lower, chain_map, span_parts, span_place, such_chain}
 use Rattle.elab_laws.proofs.InPlaces.{AtomIn, CaseIn, PairIn, atoms_chain, case_in, items_chain, pairs_chain, shape_of_item, three_items}

@@ -46,11 +46,11 @@ use Rattle.sort_core.specs.Opens.{application_node, literal_node, negated_in, op
 use Rattle.sort_core.specs.Sorts.{Survey, faults_as, operand_faults_at, same_stated, stated_at, stated_sort, survey, survey_of_node, wanted_sort}
 use Rattle.sort_core.proofs.Faultless.{is_true, none_both, none_parts, not_bad}
 use Rattle.sort_core.proofs.Surveys.{survey-Apply, survey-Call, survey-Literal, survey-Slot, survey-Term}
-use Rattle.elab_core.specs.Rules.{expr_of, expr_of_node, value_of_literal}
-use Rattle.elab_core.proofs.CleanRules.{IsFine}
-use Rattle.elab_core.proofs.Counts.{Negation, Operation, applied, kept, minus, negation, opened-Apply, opened-Negative, opened-Numeral, opened-Symbol, operation, turned}
-use Rattle.elab_core.proofs.ExpInduction.{by_arguments}
-use Rattle.elab_core.proofs.Exprs.{expr-Slot, expr-Literal, expr-Apply}
+use Rattle.making_core.specs.Rules.{expr_of, expr_of_node, value_of_literal}
+use Rattle.making_core.proofs.CleanRules.{IsFine}
+use Rattle.making_core.proofs.Counts.{Negation, Operation, applied, kept, minus, negation, opened-Apply, opened-Negative, opened-Numeral, opened-Symbol, operation, turned}
+use Rattle.making_core.proofs.ExpInduction.{by_arguments}
+use Rattle.making_core.proofs.Exprs.{expr-Slot, expr-Literal, expr-Apply}
 
 -- Operators with as many operands as they take.
 

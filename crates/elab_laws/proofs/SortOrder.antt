@@ -52,9 +52,9 @@ use Rattle.sort_core.specs.Branches.{open_branch, open_branches}
 use Rattle.sort_core.specs.Opens.{opened, variables_of, within}
 use Rattle.sort_core.specs.Relations.{child_type, declared_with, sort_of_pair, type_named}
 use Rattle.sort_core.specs.Sorts.{are_of_type, argument_faults, argument_faults_at, atom_faults, atom_faults_in, branch_faults, case_faults, constructor_at, declaration_faults, definition_faults, example_argument, example_argument_at, example_faults_of, examples_faults, functions_faults, group_faults, is_literal_of, is_term_of, is_wanted_name, kinds_named, makes, matched_type, pattern_faults, production_argument, production_faults, range_faults, sorts, sorts_of, start_faults, wanted_faults}
-use Rattle.elab_core.proofs.FormInduction.{by_items}
-use Rattle.elab_core.proofs.ShapedForms.{at-Keyword, at-List, at-Numeral, at-Symbol, at-Text}
-use Rattle.elab_core.proofs.Smallness.{parts_in}
+use Rattle.making_core.proofs.FormInduction.{by_items}
+use Rattle.making_core.proofs.ShapedForms.{at-Keyword, at-List, at-Numeral, at-Symbol, at-Text}
+use Rattle.making_core.proofs.Smallness.{parts_in}
 use Rattle.elab_laws.specs.Places.{AreInOrder, places_in}
 use Rattle.elab_laws.proofs.Chains.{Chain, InOrder, Such, chain_higher, chain_lower, faults_each, faults_from, nothing, order_joined, order_lower, span_others, span_place, spans_chain}
 use Rattle.elab_laws.proofs.InPlaces.{CaseIn, ExpIn, NodeIn, PairIn}

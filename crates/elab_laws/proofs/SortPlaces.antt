@@ -39,10 +39,10 @@ use Rattle.sort_core.specs.declared.variables.Variables.{Variables}
 use Rattle.sort_core.specs.Opens.{application_node, literal_node, negated_in, opened, operation_node, relation_named, symbol_node}
 use Rattle.sort_core.specs.Sorts.{Survey, faults_as, operand_faults, operand_faults_at, same_stated, survey, survey_of_node, wanted_sort}
 use Rattle.sort_core.proofs.Surveys.{survey-Apply, survey-Call, survey-Literal, survey-Slot, survey-Term}
-use Rattle.elab_core.proofs.Counts.{Operation, applied, minus, opened-Apply, opened-Negative, opened-Numeral, opened-Symbol, operation}
-use Rattle.elab_core.proofs.FormInduction.{by_items}
-use Rattle.elab_core.proofs.ShapedForms.{at-Keyword, at-List, at-Numeral, at-Symbol, at-Text}
-use Rattle.elab_core.proofs.Smallness.{parts_of_node}
+use Rattle.making_core.proofs.Counts.{Operation, applied, minus, opened-Apply, opened-Negative, opened-Numeral, opened-Symbol, operation}
+use Rattle.making_core.proofs.FormInduction.{by_items}
+use Rattle.making_core.proofs.ShapedForms.{at-Keyword, at-List, at-Numeral, at-Symbol, at-Text}
+use Rattle.making_core.proofs.Smallness.{parts_of_node}
 use Rattle.elab_laws.specs.Places.{places_in}
 use Rattle.elab_laws.proofs.Chains.{Chain, InOrder, chain_lower, nothing, order_joined, order_lower, span_place, spans_chain}
 use Rattle.elab_laws.proofs.InPlaces.{ExpIn}

@@ -17,8 +17,8 @@ use Rattle.syntax_core.specs.Misfits.{misfits, misfits_from}
 use Rattle.syntax_core.specs.Roles.{due_in, fits}
 use Rattle.syntax_core.proofs.Misfitting.{measure, misfits-is, parts-Keyword, parts-List, parts-Numeral, parts-Symbol, parts-Text}
 use Rattle.name_core.specs.Faults.{shapes}
-use Rattle.elab_core.proofs.FormInduction.{by_items}
-use Rattle.elab_core.proofs.ShapedForms.{at-Keyword, at-List, at-Numeral, at-Symbol, at-Text}
+use Rattle.making_core.proofs.FormInduction.{by_items}
+use Rattle.making_core.proofs.ShapedForms.{at-Keyword, at-List, at-Numeral, at-Symbol, at-Text}
 use Rattle.elab_laws.specs.Places.{AreInOrder, Rise, places_in}
 use Rattle.elab_laws.proofs.Rising.{Within, bounds, from_lower, in_order, joined, ordered_nodes, parted, rise}
 

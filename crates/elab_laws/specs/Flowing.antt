@@ -17,7 +17,7 @@ use Rattle.name_core.specs.Faults.{first, shapes}
 use Rattle.name_core.specs.Limits.{limits}
 use Rattle.name_core.specs.Names.{names}
 use Rattle.name_core.specs.States.{State}
-use Rattle.elab_core.specs.Rules.{rule_of}
+use Rattle.making_core.specs.Rules.{rule_of}
 
 -- a `define-funs-rec` in which the tests of shape, limits, names and sorts find nothing
 pub record IsTestedDefinition (s : State) (form : Sexpr) : Type 0 where

@@ -10,7 +10,7 @@ ghost use Rattle.name_core.specs.Limits.{limits};
 ghost use Rattle.name_core.specs.Names.{names};
 ghost use Rattle.name_core.specs.States.{State};
 ghost use Rattle.sort_core.specs.Sorts.{sorts};
-ghost use Rattle.elab_core.specs.Soundness.{IsSoundState};
+ghost use Rattle.making_core.specs.Soundness.{IsSoundState};
 ghost use Rattle.elab_laws.specs.Flowing.{IsTestedDefinition, RulesFit};
 ghost use Rattle.elab_laws.specs.Places.{AreInOrder, IsShaped, Rise, places_in};
 

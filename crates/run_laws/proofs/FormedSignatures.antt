@@ -13,8 +13,8 @@ use Rattle.syntax_core.specs.declared.syntax.Function.{Function}
 use Rattle.syntax_core.specs.Syntax.{items_at, type_names}
 use Rattle.name_core.specs.Names.{texts}
 use Rattle.sort_core.specs.Relations.{declared_with, relation_of}
-use Rattle.elab_core.specs.Fitting.{ConstructorsFit, RelationsFit, TermsFit, TypesFit}
-use Rattle.elab_core.specs.Making.{constructors_of, with_terms, with_types}
+use Rattle.making_core.specs.Fitting.{ConstructorsFit, RelationsFit, TermsFit, TypesFit}
+use Rattle.making_core.specs.Making.{constructors_of, with_terms, with_types}
 
 types_formed : (sig : Declarations) (names : List (List ℕ)) → IsWellFormed sig → TypesFit sig names → IsWellFormed (record sig { types = sig.types ++ names })
 types_formed sig [] well fit = subst (λ (ts : List (List ℕ)). IsWellFormed (record sig { types = ts })) (sym (append-nil sig.types)) well

@@ -17,7 +17,7 @@ use Rattle.syntax_core.specs.Shapes.{refusal}
 use Rattle.syntax_core.specs.Syntax.{functions_from, functions_of, items_at, pattern_of}
 use Rattle.name_core.specs.States.{State, Wanted, start}
 use Rattle.sort_core.specs.Relations.{relation_of}
-use Rattle.elab_core.specs.Making.{added, constructor_of, constructors_of, with_types}
+use Rattle.making_core.specs.Making.{added, constructor_of, constructors_of, with_types}
 use Rattle.elab_core.specs.Judging as judging
 use Rattle.elab_core.specs.Judging.{Judges, Outcome, after, closed, judged, outcome_of, refused, stands, step, stated_by, too_long, spelled, misspelled}
 use Rattle.answer_laws.specs.Names.{CanBeSpelled, HasSpelledNames}

@@ -1,5 +1,5 @@
 use Rattle.std.proofs.Common.{◌≡◌, ◌++◌, map, drop}
-use Rattle.elab_core.specs.Making.{constraint_of}
+use Rattle.making_core.specs.Making.{constraint_of}
 use Rattle.elab_core.proofs.constraints.put_constraints.Given as goal
 
 -- what is left makes the rest

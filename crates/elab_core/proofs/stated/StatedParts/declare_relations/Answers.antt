@@ -1,10 +1,10 @@
 use Rattle.std.proofs.Common.{[], map, refl, subst, sym}
 use Rattle.std.proofs.lemmas.List.{append-nil}
 use Rattle.sig_core.specs.WellFormed.{relation_names}
-use Rattle.elab_core.specs.Fitting.{RelationsFit}
+use Rattle.making_core.specs.Fitting.{RelationsFit}
 use Rattle.sort_core.specs.Relations.{relation_of}
 use Rattle.name_core.specs.States.{State}
-use Rattle.elab_core.proofs.Declaring.{relations_fit}
+use Rattle.making_core.proofs.Declaring.{relations_fit}
 use Rattle.elab_core.proofs.stated.StatedParts.declare_relations.Goals as goal
 
 pub add_relations-requires : goal.add_relations-requires

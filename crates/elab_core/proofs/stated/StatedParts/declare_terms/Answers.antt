@@ -5,11 +5,11 @@ use Rattle.name_core.specs.Faults.{first}
 use Rattle.name_core.specs.Limits.{limits}
 use Rattle.name_core.specs.Names.{names}
 use Rattle.name_core.specs.States.{State}
-use Rattle.elab_core.proofs.Fits.{none-left, none-right}
+use Rattle.making_core.proofs.Fits.{none-left, none-right}
 use Rattle.sig_core.specs.WellFormed.{IsWellFormed}
-use Rattle.elab_core.specs.Making.{with_terms}
+use Rattle.making_core.specs.Making.{with_terms}
 use Rattle.elab_core.proofs.Growing.{terms_taken}
-use Rattle.elab_core.proofs.Terms.{terms_fit}
+use Rattle.making_core.proofs.Terms.{terms_fit}
 use Rattle.elab_core.proofs.stated.StatedParts.declare_terms.Goals as goal
 
 pub put_terms-requires : goal.put_terms-requires

@@ -1,0 +1,4 @@
+pub mod Fitting
+pub mod Making
+pub mod Rules
+pub mod Soundness
