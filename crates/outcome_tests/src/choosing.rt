@@ -4,15 +4,14 @@ ghost use Rattle.eval_core.specs.Evaluations.{IsAccepted};
 ghost use Rattle.rule_core.specs.Rulebooks.{HasSmallParts};
 ghost use Rattle.example_atoms.specs.Rules.{IsShort};
 
-use crate::evaluating::{Given, Question, add, expect, found};
-use crate::relations::add_binary;
+use crate::expecting::expect;
 use example_atoms::{call_child, choice, fill, giving, over_two, put, rule, variables};
+use example_outcomes::{Given, Question, add, add_binary, found};
 use example_terms::{B, E, Language, Node, signature_of};
 use expr_core::{Expr, Op};
 use rule_core::{AddError, Atoms, Rule, Rulebook};
 use sig_core::{ConId, RelId, SigError, Signature, Sort, Value};
 use std::alloc::{AllocError, Global};
-use std::process::Abort;
 
 const E_SEM: RelId = RelId(0);
 
@@ -71,19 +70,17 @@ fn choose(alloc: Global) -> Result<Rule, AllocError>
 }
 
 /// The rules of `$x` and `$y`.
-fn inputs(rt: &impl Abort, alloc: Global, signature: &Signature) -> Result<Rulebook, AddError>
+fn inputs(alloc: Global, signature: &Signature) -> Result<Rulebook, AddError>
     ensures short { IfOk result (λ book. length book ≡ 2) }
     ensures accepted { IfOk result (All (IsAccepted signature.now)) }
 {
     let mut book = Rulebook::new(alloc);
     add(
-        rt,
         &mut book,
         signature,
         giving(alloc, E_SEM, ConId(0), 2, Expr::Slot(0))?,
     )?;
     add(
-        rt,
         &mut book,
         signature,
         giving(alloc, E_SEM, ConId(1), 2, Expr::Slot(1))?,
@@ -91,54 +88,48 @@ fn inputs(rt: &impl Abort, alloc: Global, signature: &Signature) -> Result<Ruleb
     Ok(book)
 }
 
-fn book(rt: &impl Abort, alloc: Global, signature: &Signature) -> Result<Rulebook, AddError>
+fn book(alloc: Global, signature: &Signature) -> Result<Rulebook, AddError>
     ensures { IfOk result (All (IsAccepted signature.now)) }
 {
-    let mut book = inputs(rt, alloc, signature)?;
-    add(rt, &mut book, signature, less(alloc)?)?;
-    add(rt, &mut book, signature, choose(alloc)?)?;
+    let mut book = inputs(alloc, signature)?;
+    add(&mut book, signature, less(alloc)?)?;
+    add(&mut book, signature, choose(alloc)?)?;
     Ok(book)
 }
 
-fn signature(rt: &impl Abort, alloc: Global) -> Result<Signature, SigError> {
+fn signature(alloc: Global) -> Result<Signature, SigError> {
     let mut signature = signature_of(alloc, &LANGUAGE)?;
-    add_binary(rt, alloc, &mut signature, b"E.Sem", E, Sort::Int)?;
-    add_binary(rt, alloc, &mut signature, b"B.Sem", B, Sort::Bool)?;
+    add_binary(alloc, &mut signature, b"E.Sem", E, Sort::Int)?;
+    add_binary(alloc, &mut signature, b"B.Sem", B, Sort::Bool)?;
     Ok(signature)
 }
 
 fn greater_by(
-    rt: &impl Abort,
     alloc: Global,
     signature: &Signature,
     inputs: &[Value],
     height: u32,
 ) -> Result<Given, AddError> {
-    let book = book(rt, alloc, signature)?;
+    let book = book(alloc, signature)?;
     let question = Question {
         relation: E_SEM,
         inputs,
         height,
     };
-    Ok(found(rt, alloc, signature, &book, &GREATER, &question)?)
+    Ok(found(alloc, signature, &book, &GREATER, &question)?)
 }
 
 /// What the term gives at these inputs.
-fn greater(
-    rt: &impl Abort,
-    alloc: Global,
-    inputs: &[Value],
-    height: u32,
-) -> Result<Given, AddError> {
-    let Ok(signature) = signature(rt, alloc) else {
+fn greater(alloc: Global, inputs: &[Value], height: u32) -> Result<Given, AddError> {
+    let Ok(signature) = signature(alloc) else {
         return Err(AddError::Memory);
     };
-    greater_by(rt, alloc, &signature, inputs, height)
+    greater_by(alloc, &signature, inputs, height)
 }
 
 #[test]
 fn the_greater_is_chosen(rt: HostRuntime) {
     let inputs = [Value::Int(4), Value::Int(2)];
-    expect(&rt, greater(&rt, rt.alloc(), &inputs, 3), &[(4, 3)]);
-    expect(&rt, greater(&rt, rt.alloc(), &inputs, 2), &[]);
+    expect(&rt, greater(rt.alloc(), &inputs, 3), &[(4, 3)]);
+    expect(&rt, greater(rt.alloc(), &inputs, 2), &[]);
 }

@@ -4,13 +4,9 @@
 #[cfg(test)]
 mod choosing;
 #[cfg(test)]
-mod conditions;
-#[cfg(test)]
 mod counting;
 #[cfg(test)]
-mod evaluating;
-#[cfg(test)]
-mod relations;
+mod expecting;
 #[cfg(test)]
 mod summing;
 #[cfg(test)]

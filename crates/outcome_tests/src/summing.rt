@@ -4,15 +4,14 @@ ghost use Rattle.rule_core.specs.Rulebooks.{HasSmallParts};
 ghost use Rattle.eval_core.specs.Evaluations.{IsAccepted};
 ghost use Rattle.example_atoms.specs.Rules.{IsShort};
 
-use crate::evaluating::{Given, Question, add, expect, found};
-use crate::relations::add_unary;
+use crate::expecting::expect;
 use example_atoms::{call_itself, fill, over_number, over_two, put, rule, test, variables};
+use example_outcomes::{Given, Question, add, add_unary, found};
 use example_terms::{E, LEAF, Language, signature_of};
 use expr_core::{Expr, Op};
 use rule_core::{AddError, Atoms, Rule, Rulebook};
 use sig_core::{ConId, RelId, SigError, Signature, Sort, Value};
 use std::alloc::{AllocError, Global};
-use std::process::Abort;
 
 const S: RelId = RelId(0);
 
@@ -55,48 +54,47 @@ fn sum(alloc: Global) -> Result<Rule, AllocError>
     Ok(rule(alloc, S, ConId(0), more, atoms))
 }
 
-fn book(rt: &impl Abort, alloc: Global, signature: &Signature) -> Result<Rulebook, AddError>
+fn book(alloc: Global, signature: &Signature) -> Result<Rulebook, AddError>
     ensures { IfOk result (All (IsAccepted signature.now)) }
 {
     let mut book = Rulebook::new(alloc);
-    add(rt, &mut book, signature, first_two(alloc)?)?;
-    add(rt, &mut book, signature, sum(alloc)?)?;
+    add(&mut book, signature, first_two(alloc)?)?;
+    add(&mut book, signature, sum(alloc)?)?;
     Ok(book)
 }
 
-fn signature(rt: &impl Abort, alloc: Global) -> Result<Signature, SigError> {
+fn signature(alloc: Global) -> Result<Signature, SigError> {
     let mut signature = signature_of(alloc, &LANGUAGE)?;
-    add_unary(rt, alloc, &mut signature, b"S", E)?;
+    add_unary(alloc, &mut signature, b"S", E)?;
     Ok(signature)
 }
 
 fn at_by(
-    rt: &impl Abort,
     alloc: Global,
     signature: &Signature,
     inputs: &[Value],
     height: u32,
 ) -> Result<Given, AddError> {
-    let book = book(rt, alloc, signature)?;
+    let book = book(alloc, signature)?;
     let question = Question {
         relation: S,
         inputs,
         height,
     };
-    Ok(found(rt, alloc, signature, &book, &LEAF, &question)?)
+    Ok(found(alloc, signature, &book, &LEAF, &question)?)
 }
 
 /// What the relation gives at x.
-fn at(rt: &impl Abort, alloc: Global, x: i128, height: u32) -> Result<Given, AddError> {
-    let Ok(signature) = signature(rt, alloc) else {
+fn at(alloc: Global, x: i128, height: u32) -> Result<Given, AddError> {
+    let Ok(signature) = signature(alloc) else {
         return Err(AddError::Memory);
     };
-    at_by(rt, alloc, &signature, &[Value::Int(x)], height)
+    at_by(alloc, &signature, &[Value::Int(x)], height)
 }
 
 /// Without the table of outcomes this takes more than 10 ^ 12 calls.
 #[test]
 fn sixty_is_reached_at_once(rt: HostRuntime) {
-    expect(&rt, at(&rt, rt.alloc(), 60, 59), &[]);
-    expect(&rt, at(&rt, rt.alloc(), 60, 60), &[(1548008755920, 60)]);
+    expect(&rt, at(rt.alloc(), 60, 59), &[]);
+    expect(&rt, at(rt.alloc(), 60, 60), &[(1548008755920, 60)]);
 }

@@ -2,14 +2,13 @@
 ghost use Rattle.std.specs.Prelude.{All, IfOk};
 ghost use Rattle.eval_core.specs.Evaluations.{IsAccepted};
 
-use crate::evaluating::{Given, Question, add, expect, found};
-use crate::relations::add_constant;
+use crate::expecting::expect;
 use example_atoms::{giving, number};
+use example_outcomes::{Given, Question, add, add_constant, found};
 use example_terms::{E, LEAF, Language, signature_of};
 use rule_core::{AddError, Rulebook};
 use sig_core::{ConId, RelId, SigError, Signature};
 use std::alloc::Global;
-use std::process::Abort;
 
 const S: RelId = RelId(0);
 
@@ -20,7 +19,6 @@ const LANGUAGE: Language = Language {
 
 /// `($c (= r first)) ($c (= r second))`
 fn book(
-    rt: &impl Abort,
     alloc: Global,
     signature: &Signature,
     first: i128,
@@ -30,13 +28,11 @@ fn book(
 {
     let mut book = Rulebook::new(alloc);
     add(
-        rt,
         &mut book,
         signature,
         giving(alloc, S, ConId(0), 0, number(first))?,
     )?;
     add(
-        rt,
         &mut book,
         signature,
         giving(alloc, S, ConId(0), 0, number(second))?,
@@ -44,39 +40,38 @@ fn book(
     Ok(book)
 }
 
-fn signature(rt: &impl Abort, alloc: Global) -> Result<Signature, SigError> {
+fn signature(alloc: Global) -> Result<Signature, SigError> {
     let mut signature = signature_of(alloc, &LANGUAGE)?;
-    add_constant(rt, alloc, &mut signature, b"S", E)?;
+    add_constant(alloc, &mut signature, b"S", E)?;
     Ok(signature)
 }
 
 fn given_by(
-    rt: &impl Abort,
     alloc: Global,
     signature: &Signature,
     first: i128,
     second: i128,
 ) -> Result<Given, AddError> {
-    let book = book(rt, alloc, signature, first, second)?;
+    let book = book(alloc, signature, first, second)?;
     let question = Question {
         relation: S,
         inputs: &[],
         height: 1,
     };
-    Ok(found(rt, alloc, signature, &book, &LEAF, &question)?)
+    Ok(found(alloc, signature, &book, &LEAF, &question)?)
 }
 
 /// What two rules with these outputs give.
-fn given(rt: &impl Abort, alloc: Global, first: i128, second: i128) -> Result<Given, AddError> {
-    let Ok(signature) = signature(rt, alloc) else {
+fn given(alloc: Global, first: i128, second: i128) -> Result<Given, AddError> {
+    let Ok(signature) = signature(alloc) else {
         return Err(AddError::Memory);
     };
-    given_by(rt, alloc, &signature, first, second)
+    given_by(alloc, &signature, first, second)
 }
 
 #[test]
 fn both_rules_are_run(rt: HostRuntime) {
-    expect(&rt, given(&rt, rt.alloc(), 0, 1), &[(0, 1), (1, 1)]);
-    expect(&rt, given(&rt, rt.alloc(), 1, 0), &[(0, 1), (1, 1)]);
-    expect(&rt, given(&rt, rt.alloc(), 1, 1), &[(1, 1)]);
+    expect(&rt, given(rt.alloc(), 0, 1), &[(0, 1), (1, 1)]);
+    expect(&rt, given(rt.alloc(), 1, 0), &[(0, 1), (1, 1)]);
+    expect(&rt, given(rt.alloc(), 1, 1), &[(1, 1)]);
 }

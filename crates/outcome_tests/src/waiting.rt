@@ -3,15 +3,14 @@ ghost use Rattle.std.specs.Prelude.{All, IfOk};
 ghost use Rattle.eval_core.specs.Evaluations.{IsAccepted};
 ghost use Rattle.example_atoms.specs.Rules.{IsShort};
 
-use crate::evaluating::{Given, Question, add, expect, found};
-use crate::relations::add_unary;
+use crate::expecting::expect;
 use example_atoms::{call_itself, fill, giving, put, rule, variables};
+use example_outcomes::{Given, Question, add, add_unary, found};
 use example_terms::{E, LEAF, Language, signature_of};
 use expr_core::Expr;
 use rule_core::{AddError, Atoms, Rule, Rulebook};
 use sig_core::{ConId, RelId, SigError, Signature, Sort, Value};
 use std::alloc::{AllocError, Global};
-use std::process::Abort;
 
 const SEM: RelId = RelId(0);
 
@@ -32,13 +31,12 @@ fn slow(alloc: Global) -> Result<Rule, AllocError>
     Ok(rule(alloc, SEM, ConId(0), variables(alloc, &[Sort::Int])?, atoms))
 }
 
-fn book(rt: &impl Abort, alloc: Global, signature: &Signature) -> Result<Rulebook, AddError>
+fn book(alloc: Global, signature: &Signature) -> Result<Rulebook, AddError>
     ensures { IfOk result (All (IsAccepted signature.now)) }
 {
     let mut book = Rulebook::new(alloc);
-    add(rt, &mut book, signature, slow(alloc)?)?;
+    add(&mut book, signature, slow(alloc)?)?;
     add(
-        rt,
         &mut book,
         signature,
         giving(alloc, AUX, ConId(0), 1, Expr::Slot(0))?,
@@ -46,39 +44,38 @@ fn book(rt: &impl Abort, alloc: Global, signature: &Signature) -> Result<Ruleboo
     Ok(book)
 }
 
-fn signature(rt: &impl Abort, alloc: Global) -> Result<Signature, SigError> {
+fn signature(alloc: Global) -> Result<Signature, SigError> {
     let mut signature = signature_of(alloc, &LANGUAGE)?;
-    add_unary(rt, alloc, &mut signature, b"Sem", E)?;
-    add_unary(rt, alloc, &mut signature, b"Aux", E)?;
+    add_unary(alloc, &mut signature, b"Sem", E)?;
+    add_unary(alloc, &mut signature, b"Aux", E)?;
     Ok(signature)
 }
 
 fn at_by(
-    rt: &impl Abort,
     alloc: Global,
     signature: &Signature,
     inputs: &[Value],
     height: u32,
 ) -> Result<Given, AddError> {
-    let book = book(rt, alloc, signature)?;
+    let book = book(alloc, signature)?;
     let question = Question {
         relation: SEM,
         inputs,
         height,
     };
-    Ok(found(rt, alloc, signature, &book, &LEAF, &question)?)
+    Ok(found(alloc, signature, &book, &LEAF, &question)?)
 }
 
 /// What `$slow` gives at x.
-fn at(rt: &impl Abort, alloc: Global, x: i128, height: u32) -> Result<Given, AddError> {
-    let Ok(signature) = signature(rt, alloc) else {
+fn at(alloc: Global, x: i128, height: u32) -> Result<Given, AddError> {
+    let Ok(signature) = signature(alloc) else {
         return Err(AddError::Memory);
     };
-    at_by(rt, alloc, &signature, &[Value::Int(x)], height)
+    at_by(alloc, &signature, &[Value::Int(x)], height)
 }
 
 #[test]
 fn a_call_is_one_lower(rt: HostRuntime) {
-    expect(&rt, at(&rt, rt.alloc(), 0, 1), &[]);
-    expect(&rt, at(&rt, rt.alloc(), 0, 2), &[(0, 2)]);
+    expect(&rt, at(rt.alloc(), 0, 1), &[]);
+    expect(&rt, at(rt.alloc(), 0, 2), &[(0, 2)]);
 }

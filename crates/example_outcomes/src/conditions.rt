@@ -1,4 +1,4 @@
-//! Conditions of calls, seen to hold when a test runs.
+//! Conditions of calls, looked at when a test runs.
 ghost use Rattle.std.specs.Prelude.{◌≡◌, Some, map, length, IsTrue};
 ghost use Rattle.sig_core.specs.Signatures.{inputs_of, kinds_of, plain_sorts, term_type};
 ghost use Rattle.sig_core.specs.Values.{sort_of};
@@ -8,7 +8,6 @@ ghost use Rattle.example_atoms.specs.Rules.{IsShort};
 
 use rule_core::Rule;
 use sig_core::{Kind, Param, RelId, Signature, Sort, TypeId, Value, count_plain};
-use std::process::Abort;
 
 /// Whether the first term among the parameters is of this type.
 fn is_on(params: &[Param], owner: TypeId) -> bool
@@ -50,23 +49,28 @@ fn are_inputs(params: &[Param], inputs: &[Value]) -> bool
     }
 }
 
-/// Ends the test unless the rule is one of the signature's.
-pub fn expect_rule(rt: &impl Abort, signature: &Signature, rule: &Rule)
+/// Whether the rule is one of the signature's.
+pub fn is_rule(signature: &Signature, rule: &Rule) -> bool
     requires { IsShort rule.now }
-    ensures { IsRuleOf signature.now rule.now }
+    ensures { IsTrue result → IsRuleOf signature.now rule.now }
 {
-    assert!(rt; rule.relation.0 < signature.relations());
-    assert!(rt; rule.con.0 < signature.constructors());
+    if rule.relation.0 >= signature.relations() {
+        return false;
+    }
+    if rule.con.0 >= signature.constructors() {
+        return false;
+    }
     let params = signature.relation(rule.relation).params.as_slice();
-    assert!(rt; rule.more.len() <= 32);
-    assert!(rt; count_plain(params) <= 32);
-    assert!(rt; is_on(params, signature.constructor(rule.con).owner));
+    let owner = signature.constructor(rule.con).owner;
+    rule.more.len() <= 32 && count_plain(params) <= 32 && is_on(params, owner)
 }
 
-/// Ends the test unless the values are inputs of the relation.
-pub fn expect_inputs(rt: &impl Abort, signature: &Signature, relation: RelId, inputs: &[Value])
-    ensures { AreInputs signature.now relation inputs.now }
+/// Whether the values are inputs of the relation.
+pub fn are_inputs_of(signature: &Signature, relation: RelId, inputs: &[Value]) -> bool
+    ensures { IsTrue result → AreInputs signature.now relation inputs.now }
 {
-    assert!(rt; relation.0 < signature.relations());
-    assert!(rt; are_inputs(signature.relation(relation).params.as_slice(), inputs));
+    if relation.0 >= signature.relations() {
+        return false;
+    }
+    are_inputs(signature.relation(relation).params.as_slice(), inputs)
 }

@@ -1,5 +1,5 @@
 use Rattle.std.proofs.Common.{length}
-use Rattle.outcome_tests.proofs.conditions.+are_inputs.Given as goal
+use Rattle.example_outcomes.proofs.conditions.+are_inputs.Given as goal
 
 abbrev pub decreases-are_inputs : goal.decreases-are_inputs
 decreases-are_inputs l = length l.params.now

