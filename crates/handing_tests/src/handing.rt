@@ -1,4 +1,4 @@
-ghost use Rattle.std.specs.Prelude.{◌<◌, ◌^◌, IfOk};
+ghost use Rattle.std.specs.Prelude.{◌<◌, ◌≤◌, ◌^◌, length, IfOk};
 ghost use Rattle.expr_core.specs.Expressions.{node_count};
 ghost use Rattle.rule_core.specs.Rulebooks.{HasSmallParts, IsRuleOf};
 ghost use Rattle.example_rules.specs.Examples.{example};
@@ -8,7 +8,7 @@ use example_rules::{
 };
 use expr_core::Expr;
 use rule_core::{AddError, Atom, Rule, Rulebook, Who};
-use sig_core::{RelId, Value};
+use sig_core::{RelId, Signature, Value};
 use std::alloc::Global;
 
 /// A rule of a relation with one atom.
@@ -21,17 +21,48 @@ fn with_atom(alloc: Global, relation: RelId, atom: Atom) -> Result<Rule, AddErro
     Ok(rule(alloc, relation, PLUS, variables(alloc, 0)?, atoms))
 }
 
+/// Whether the sum hands on at each child.
+fn hands(book: &Rulebook, signature: &Signature) -> (bool, bool) {
+    let left = book.hands_on(signature, PLUS, 0);
+    (left, book.hands_on(signature, PLUS, 1))
+}
+
+/// The same after one more rule in a short book.
+fn hands_after(
+    book: &mut Rulebook,
+    signature: &Signature,
+    rule: Rule,
+) -> Result<(bool, bool), AddError>
+    requires short { length book.old ≤ 1 }
+    requires rule { IsRuleOf signature.now rule }
+{
+    book.add(signature, rule)?;
+    Ok(hands(book, signature))
+}
+
+/// The same of two rules, in order.
+fn hands_by(
+    alloc: Global,
+    signature: &Signature,
+    first: Rule,
+    second: Rule,
+) -> Result<(bool, bool), AddError>
+    requires first { IsRuleOf signature.now first }
+    requires second { IsRuleOf signature.now second }
+{
+    let mut book = Rulebook::new(alloc);
+    book.add(signature, first)?;
+    hands_after(&mut book, signature, second)
+}
+
 /// Whether the sum hands on at each child, by the rule.
 fn handed_alone(alloc: Global, rule: Rule) -> Result<(bool, bool), AddError>
     requires { IsRuleOf example rule }
 {
-    let Ok(signature) = example(alloc) else {
-        return Err(AddError::Memory);
-    };
-    let mut book = Rulebook::new(alloc);
-    book.add(&signature, rule)?;
-    let left = book.hands_on(&signature, PLUS, 0);
-    Ok((left, book.hands_on(&signature, PLUS, 1)))
+    match example(alloc) {
+        Ok(signature) => hands_after(&mut Rulebook::new(alloc), &signature, rule),
+        Err(_) => Err(AddError::Memory),
+    }
 }
 
 /// Whether the sum hands on at each child, by the rules in order.
@@ -39,14 +70,10 @@ fn handed(alloc: Global, first: Rule, second: Rule) -> Result<(bool, bool), AddE
     requires first { IsRuleOf example first }
     requires second { IsRuleOf example second }
 {
-    let Ok(signature) = example(alloc) else {
-        return Err(AddError::Memory);
-    };
-    let mut book = Rulebook::new(alloc);
-    book.add(&signature, first)?;
-    book.add(&signature, second)?;
-    let left = book.hands_on(&signature, PLUS, 0);
-    Ok((left, book.hands_on(&signature, PLUS, 1)))
+    match example(alloc) {
+        Ok(signature) => hands_by(alloc, &signature, first, second),
+        Err(_) => Err(AddError::Memory),
+    }
 }
 
 /// The rule asks for the first child at the input.
@@ -70,41 +97,80 @@ fn shifted_input(alloc: Global) -> Result<(bool, bool), AddError> {
 }
 
 /// The second relation's rule asks for the first child at 1.
-fn second_relation(alloc: Global) -> Result<(bool, bool), AddError> {
-    let at_1 = call(
-        alloc,
-        MAPS,
-        Who::Child(0),
-        Expr::Lit(Value::Int(1)),
-        slot(0),
-    )?;
-    let first = on_child(alloc, slot(0))?;
-    handed(alloc, first, with_atom(alloc, GIVES, at_1)?)
+fn at_one(alloc: Global) -> Result<Rule, AddError>
+    ensures { IfOk result (IsRuleOf example) }
+{
+    let one = Expr::Lit(Value::Int(1));
+    let atom = call(alloc, MAPS, Who::Child(0), one, slot(0))?;
+    with_atom(alloc, GIVES, atom)
 }
 
-/// Another rule asks for the term itself one further on.
-fn own_call(alloc: Global) -> Result<(bool, bool), AddError> {
-    let further = call(alloc, MAPS, Who::Own, successor(alloc, 0)?, slot(1))?;
-    let first = on_child(alloc, slot(0))?;
-    handed(alloc, first, with_atom(alloc, MAPS, further)?)
+/// A rule asks for the term itself one further on.
+fn own_call(alloc: Global) -> Result<Rule, AddError>
+    ensures { IfOk result (IsRuleOf example) }
+{
+    let further = successor(alloc, 0)?;
+    let atom = call(alloc, MAPS, Who::Own, further, slot(1))?;
+    with_atom(alloc, MAPS, atom)
+}
+
+/// Another rule stands after the one that asks for the first child at the input.
+fn before(alloc: Global, second: Rule) -> Result<(bool, bool), AddError>
+    requires { IsRuleOf example second }
+{
+    match on_child(alloc, slot(0)) {
+        Ok(first) => handed(alloc, first, second),
+        Err(error) => Err(error),
+    }
+}
+
+fn before_at_one(alloc: Global) -> Result<(bool, bool), AddError> {
+    let second = at_one(alloc)?;
+    before(alloc, second)
+}
+
+fn before_own_call(alloc: Global) -> Result<(bool, bool), AddError> {
+    let second = own_call(alloc)?;
+    before(alloc, second)
 }
 
 /// A rule that asks for both children at the input, as the sum does.
-fn both_children(alloc: Global) -> Result<(bool, bool), AddError> {
+fn on_both(alloc: Global) -> Result<Rule, AddError>
+    ensures { IfOk result (IsRuleOf example) }
+{
     let left = call(alloc, MAPS, Who::Child(0), slot(0), slot(1))?;
     let right = call(alloc, MAPS, Who::Child(1), slot(0), slot(1))?;
     let atoms = pair(alloc, left, right)?;
-    handed_alone(alloc, rule(alloc, MAPS, PLUS, variables(alloc, 0)?, atoms))
+    Ok(rule(alloc, MAPS, PLUS, variables(alloc, 0)?, atoms))
+}
+
+fn both_children(alloc: Global) -> Result<(bool, bool), AddError> {
+    let rule = on_both(alloc)?;
+    handed_alone(alloc, rule)
 }
 
 /// Whether the choice hands on at its second child, where the sum alone has a rule.
-fn without_rules(alloc: Global) -> Result<bool, AddError> {
-    let Ok(signature) = example(alloc) else {
-        return Err(AddError::Memory);
-    };
+fn choice_by(alloc: Global, signature: &Signature, rule: Rule) -> Result<bool, AddError>
+    requires { IsRuleOf signature.now rule }
+{
     let mut book = Rulebook::new(alloc);
-    book.add(&signature, on_child(alloc, successor(alloc, 0)?)?)?;
-    Ok(book.hands_on(&signature, CHOICE, 1))
+    book.add(signature, rule)?;
+    Ok(book.hands_on(signature, CHOICE, 1))
+}
+
+fn choice_with(alloc: Global, rule: Rule) -> Result<bool, AddError>
+    requires { IsRuleOf example rule }
+{
+    match example(alloc) {
+        Ok(signature) => choice_by(alloc, &signature, rule),
+        Err(_) => Err(AddError::Memory),
+    }
+}
+
+fn without_rules(alloc: Global) -> Result<bool, AddError> {
+    let further = successor(alloc, 0)?;
+    let rule = on_child(alloc, further)?;
+    choice_with(alloc, rule)
 }
 
 #[test]
@@ -125,10 +191,10 @@ fn shifts_no_input_on(rt: HostRuntime) {
 
 #[test]
 fn the_rules_of_each_relation_count(rt: HostRuntime) {
-    assert_eq!(rt; second_relation(rt.alloc()), Ok((false, true)));
+    assert_eq!(rt; before_at_one(rt.alloc()), Ok((false, true)));
 }
 
 #[test]
 fn calls_on_the_term_itself_count(rt: HostRuntime) {
-    assert_eq!(rt; own_call(rt.alloc()), Ok((false, false)));
+    assert_eq!(rt; before_own_call(rt.alloc()), Ok((false, false)));
 }
