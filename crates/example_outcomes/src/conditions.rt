@@ -1,6 +1,6 @@
 //! Conditions of calls, looked at when a test runs.
-ghost use Rattle.std.specs.Prelude.{◌≡◌, Some, map, length, IsTrue};
-ghost use Rattle.sig_core.specs.Signatures.{inputs_of, kinds_of, plain_sorts, term_type};
+ghost use Rattle.std.specs.Prelude.{◌≡◌, Some, map, IsTrue};
+ghost use Rattle.sig_core.specs.Signatures.{inputs_of, plain_sorts, term_type};
 ghost use Rattle.sig_core.specs.Values.{sort_of};
 ghost use Rattle.rule_core.specs.Rulebooks.{IsRuleOf};
 ghost use Rattle.eval_core.specs.Outcomes.{AreInputs};

@@ -1,4 +1,4 @@
-ghost use Rattle.std.specs.Prelude.{◌≡◌, ◌≤◌, ◌+◌, length, All, OnOk};
+ghost use Rattle.std.specs.Prelude.{◌≡◌, ◌≤◌, ◌+◌, length, All, IfOk, OnOk};
 ghost use Rattle.eval_core.specs.Evaluations.{IsAccepted, StandsFor};
 ghost use Rattle.example_atoms.specs.Rules.{IsShort};
 
@@ -23,6 +23,42 @@ pub fn add(book: &mut Rulebook, signature: &Signature, rule: Rule) -> Result<(),
     } else {
         Err(AddError::Memory)
     }
+}
+
+/// Adds a rule that was made, unless memory was refused for it.
+pub fn add_made(
+    book: &mut Rulebook,
+    signature: &Signature,
+    made: Result<Rule, AllocError>,
+) -> Result<(), AddError>
+    requires short { length book.old ≤ 7 }
+    requires rule { IfOk made IsShort }
+    requires accepted { All (IsAccepted signature.now) book.old }
+    ensures short { OnOk result (length book.new ≡ length book.old + 1) }
+    ensures accepted { OnOk result (All (IsAccepted signature.now) book.new) }
+{
+    match made {
+        Ok(rule) => add(book, signature, rule),
+        Err(_) => Err(AddError::Memory),
+    }
+}
+
+/// A book of two rules that were made, unless memory was refused for one.
+pub fn two_rules(
+    alloc: Global,
+    signature: &Signature,
+    first: Result<Rule, AllocError>,
+    second: Result<Rule, AllocError>,
+) -> Result<Rulebook, AddError>
+    requires first { IfOk first IsShort }
+    requires second { IfOk second IsShort }
+    ensures short { IfOk result (λ book. length book ≡ 2) }
+    ensures accepted { IfOk result (All (IsAccepted signature.now)) }
+{
+    let mut book = Rulebook::new(alloc);
+    add_made(&mut book, signature, first)?;
+    add_made(&mut book, signature, second)?;
+    Ok(book)
 }
 
 /// What a relation gives at inputs, within a height.
@@ -108,9 +144,11 @@ pub fn found(
     book: &Rulebook,
     nodes: &[Node],
     question: &Question<'_>,
-) -> Result<Given, AllocError>
+) -> Result<Given, AddError>
     requires { All (IsAccepted signature.now) book.now }
 {
-    let bank = interned(alloc, signature, nodes)?;
-    found_in(alloc, signature, book, &bank, question)
+    match interned(alloc, signature, nodes) {
+        Ok(bank) => Ok(found_in(alloc, signature, book, &bank, question)?),
+        Err(_) => Err(AddError::Memory),
+    }
 }

@@ -1,12 +1,12 @@
 //! The greater of two numbers.
-ghost use Rattle.std.specs.Prelude.{◌≡◌, ◌≤◌, ◌+◌, length, All, IfOk, OnOk};
+ghost use Rattle.std.specs.Prelude.{◌≡◌, ◌≤◌, ◌+◌, length, All, IfOk};
 ghost use Rattle.eval_core.specs.Evaluations.{IsAccepted};
 ghost use Rattle.rule_core.specs.Rulebooks.{HasSmallParts};
 ghost use Rattle.example_atoms.specs.Rules.{IsShort};
 
 use crate::expecting::expect;
 use example_atoms::{call_child, choice, fill, giving, over_two, put, rule, variables};
-use example_outcomes::{Given, Question, add, add_binary, found};
+use example_outcomes::{Given, Question, add_binary, add_made, found, two_rules};
 use example_terms::{B, E, Language, Node, signature_of};
 use expr_core::{Expr, Op};
 use rule_core::{AddError, Atoms, Rule, Rulebook};
@@ -74,26 +74,17 @@ fn inputs(alloc: Global, signature: &Signature) -> Result<Rulebook, AddError>
     ensures short { IfOk result (λ book. length book ≡ 2) }
     ensures accepted { IfOk result (All (IsAccepted signature.now)) }
 {
-    let mut book = Rulebook::new(alloc);
-    add(
-        &mut book,
-        signature,
-        giving(alloc, E_SEM, ConId(0), 2, Expr::Slot(0))?,
-    )?;
-    add(
-        &mut book,
-        signature,
-        giving(alloc, E_SEM, ConId(1), 2, Expr::Slot(1))?,
-    )?;
-    Ok(book)
+    let x = giving(alloc, E_SEM, ConId(0), 2, Expr::Slot(0));
+    let y = giving(alloc, E_SEM, ConId(1), 2, Expr::Slot(1));
+    two_rules(alloc, signature, x, y)
 }
 
 fn book(alloc: Global, signature: &Signature) -> Result<Rulebook, AddError>
     ensures { IfOk result (All (IsAccepted signature.now)) }
 {
     let mut book = inputs(alloc, signature)?;
-    add(&mut book, signature, less(alloc)?)?;
-    add(&mut book, signature, choose(alloc)?)?;
+    add_made(&mut book, signature, less(alloc))?;
+    add_made(&mut book, signature, choose(alloc))?;
     Ok(book)
 }
 
@@ -110,21 +101,23 @@ fn greater_by(
     inputs: &[Value],
     height: u32,
 ) -> Result<Given, AddError> {
-    let book = book(alloc, signature)?;
     let question = Question {
         relation: E_SEM,
         inputs,
         height,
     };
-    Ok(found(alloc, signature, &book, &GREATER, &question)?)
+    match book(alloc, signature) {
+        Ok(book) => found(alloc, signature, &book, &GREATER, &question),
+        Err(error) => Err(error),
+    }
 }
 
 /// What the term gives at these inputs.
 fn greater(alloc: Global, inputs: &[Value], height: u32) -> Result<Given, AddError> {
-    let Ok(signature) = signature(alloc) else {
-        return Err(AddError::Memory);
-    };
-    greater_by(alloc, &signature, inputs, height)
+    match signature(alloc) {
+        Ok(signature) => greater_by(alloc, &signature, inputs, height),
+        Err(_) => Err(AddError::Memory),
+    }
 }
 
 #[test]

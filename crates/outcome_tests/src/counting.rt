@@ -5,7 +5,7 @@ ghost use Rattle.example_atoms.specs.Rules.{IsShort};
 
 use crate::expecting::expect;
 use example_atoms::{call_itself, fill, number, over_number, put, rule, test, variables};
-use example_outcomes::{Given, Question, add, add_unary, found};
+use example_outcomes::{Given, Question, add_unary, found, two_rules};
 use example_terms::{E, LEAF, Language, signature_of};
 use expr_core::Op;
 use rule_core::{AddError, Atoms, Rule, Rulebook};
@@ -44,10 +44,7 @@ fn next(alloc: Global) -> Result<Rule, AllocError>
 fn book(alloc: Global, signature: &Signature) -> Result<Rulebook, AddError>
     ensures { IfOk result (All (IsAccepted signature.now)) }
 {
-    let mut book = Rulebook::new(alloc);
-    add(&mut book, signature, last(alloc)?)?;
-    add(&mut book, signature, next(alloc)?)?;
-    Ok(book)
+    two_rules(alloc, signature, last(alloc), next(alloc))
 }
 
 fn signature(alloc: Global) -> Result<Signature, SigError> {
@@ -62,21 +59,23 @@ fn at_by(
     inputs: &[Value],
     height: u32,
 ) -> Result<Given, AddError> {
-    let book = book(alloc, signature)?;
     let question = Question {
         relation: S,
         inputs,
         height,
     };
-    Ok(found(alloc, signature, &book, &LEAF, &question)?)
+    match book(alloc, signature) {
+        Ok(book) => found(alloc, signature, &book, &LEAF, &question),
+        Err(error) => Err(error),
+    }
 }
 
 /// What the relation gives at x.
 fn at(alloc: Global, x: i128, height: u32) -> Result<Given, AddError> {
-    let Ok(signature) = signature(alloc) else {
-        return Err(AddError::Memory);
-    };
-    at_by(alloc, &signature, &[Value::Int(x)], height)
+    match signature(alloc) {
+        Ok(signature) => at_by(alloc, &signature, &[Value::Int(x)], height),
+        Err(_) => Err(AddError::Memory),
+    }
 }
 
 #[test]

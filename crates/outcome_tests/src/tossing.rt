@@ -4,7 +4,7 @@ ghost use Rattle.eval_core.specs.Evaluations.{IsAccepted};
 
 use crate::expecting::expect;
 use example_atoms::{giving, number};
-use example_outcomes::{Given, Question, add, add_constant, found};
+use example_outcomes::{Given, Question, add_constant, found, two_rules};
 use example_terms::{E, LEAF, Language, signature_of};
 use rule_core::{AddError, Rulebook};
 use sig_core::{ConId, RelId, SigError, Signature};
@@ -26,18 +26,9 @@ fn book(
 ) -> Result<Rulebook, AddError>
     ensures { IfOk result (All (IsAccepted signature.now)) }
 {
-    let mut book = Rulebook::new(alloc);
-    add(
-        &mut book,
-        signature,
-        giving(alloc, S, ConId(0), 0, number(first))?,
-    )?;
-    add(
-        &mut book,
-        signature,
-        giving(alloc, S, ConId(0), 0, number(second))?,
-    )?;
-    Ok(book)
+    let first = giving(alloc, S, ConId(0), 0, number(first));
+    let second = giving(alloc, S, ConId(0), 0, number(second));
+    two_rules(alloc, signature, first, second)
 }
 
 fn signature(alloc: Global) -> Result<Signature, SigError> {
@@ -52,21 +43,23 @@ fn given_by(
     first: i128,
     second: i128,
 ) -> Result<Given, AddError> {
-    let book = book(alloc, signature, first, second)?;
     let question = Question {
         relation: S,
         inputs: &[],
         height: 1,
     };
-    Ok(found(alloc, signature, &book, &LEAF, &question)?)
+    match book(alloc, signature, first, second) {
+        Ok(book) => found(alloc, signature, &book, &LEAF, &question),
+        Err(error) => Err(error),
+    }
 }
 
 /// What two rules with these outputs give.
 fn given(alloc: Global, first: i128, second: i128) -> Result<Given, AddError> {
-    let Ok(signature) = signature(alloc) else {
-        return Err(AddError::Memory);
-    };
-    given_by(alloc, &signature, first, second)
+    match signature(alloc) {
+        Ok(signature) => given_by(alloc, &signature, first, second),
+        Err(_) => Err(AddError::Memory),
+    }
 }
 
 #[test]
