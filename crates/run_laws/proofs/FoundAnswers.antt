@@ -10,8 +10,8 @@ use Rattle.answer_core.specs.AnswerText as printed
 use Rattle.answer_core.specs.AnswerText.{derived_line, heading_text, node_line, numbered_lines, step_line}
 use Rattle.solved_laws.specs.Laws.{ReadsValid, answer_of}
 use Rattle.solved_laws.proofs.Derived.{solved_answers_read_back}
-use Rattle.semgus_app.specs.Checks.{Checks, judged}
-use Rattle.semgus_app.specs.declared.check.Checked.TheVariants as checked
+use Rattle.checking_core.specs.Checks.{Checks, judged}
+use Rattle.checking_core.specs.declared.check.Checked.TheVariants as checked
 use Rattle.semgus_app.specs.Dues.{valid}
 use Rattle.run_laws.specs.Laws.{FoundAnswersAreValid}
 use Rattle.run_laws.proofs.SoundProblems.{judged_problems_are_sound}

@@ -5,10 +5,11 @@ use Rattle.problem_core.specs.Soundness.{IsSound}
 use Rattle.elab_core.specs.Judging.{Judges}
 use Rattle.answer_laws.specs.Names.{HasSpelledNames}
 use Rattle.semgus_app.specs.declared.status.Status.TheVariants as status
-use Rattle.semgus_app.specs.Answers.{IsAnswerText}
+use Rattle.solution_core.specs.Answers.{IsAnswerText}
 use Rattle.semgus_app.specs.Dues.{IsDue}
 use Rattle.semgus_app.specs.Lines.{valid_line}
-use Rattle.semgus_app.specs.Tasks.{IsHeight, IsSize, check}
+use Rattle.semgus_app.specs.Tasks.{check}
+use Rattle.solution_core.specs.Bounds.{IsHeight, IsSize}
 
 abbrev pub JudgedNamesAreSpelled : Type 0
 JudgedNamesAreSpelled = (bytes : List ℕ) (problem : Parts) → Judges bytes (Ok problem) → HasSpelledNames problem.signature

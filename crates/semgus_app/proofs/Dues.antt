@@ -8,10 +8,10 @@ use Rattle.semgus_app.specs.declared.status.Status.{Status}
 use Rattle.semgus_app.specs.declared.status.Status.TheVariants as status
 use Rattle.semgus_app.specs.declared.status.Which.TheVariants as which
 use Rattle.syntax_core.specs.declared.fault.Fault.{Fault}
-use Rattle.semgus_app.specs.Answers.{IsAnswerText}
-use Rattle.semgus_app.specs.declared.check.Checked.{Checked}
-use Rattle.semgus_app.specs.declared.check.Checked.TheVariants as checked
-use Rattle.semgus_app.specs.Checks.{Checks}
+use Rattle.solution_core.specs.Answers.{IsAnswerText}
+use Rattle.checking_core.specs.declared.check.Checked.{Checked}
+use Rattle.checking_core.specs.declared.check.Checked.TheVariants as checked
+use Rattle.checking_core.specs.Checks.{Checks}
 use Rattle.semgus_app.specs.Dues.{IsDue, refused, found, no_term, shown, answer_refused, invalid, valid}
 use Rattle.semgus_app.specs.Files.{Inputs}
 use Rattle.semgus_app.specs.Lines.{none_line, valid_line, line_of}
@@ -19,7 +19,7 @@ use Rattle.elab_core.specs.Judging.{Judges}
 use Rattle.elab_core.proofs.Judgements.{judged_once}
 use Rattle.semgus_app.specs.Statuses.{IsJudged}
 use Rattle.semgus_app.specs.Tasks.{Task, solve, show, check, problem_file, second_file}
-use Rattle.semgus_app.proofs.Checking.{checked_once}
+use Rattle.checking_core.proofs.Checking.{checked_once}
 
 -- a problem with an answer text has an answer
 answer_is_none : (p : Parts) (height size : ℕ) (text : List ℕ) → IsAnswerText p height size text → IsAnswer p height size None → ⊥

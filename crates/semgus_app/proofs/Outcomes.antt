@@ -10,16 +10,16 @@ use Rattle.grammar_core.specs.Grammars.{Lang, start}
 use Rattle.problem_core.specs.Problems.{Parts, IsAnswer, Solves}
 use Rattle.problem_core.specs.Texts.{problem_text}
 use Rattle.answer_core.specs.Readings.{TreeAnswer}
-use Rattle.semgus_app.specs.declared.check.Checked.TheVariants as checked
-use Rattle.semgus_app.specs.Answers.{IsAnswerText}
-use Rattle.semgus_app.specs.Checks.{Reads}
+use Rattle.checking_core.specs.declared.check.Checked.TheVariants as checked
+use Rattle.solution_core.specs.Answers.{IsAnswerText}
+use Rattle.checking_core.specs.Checks.{Reads}
 use Rattle.semgus_app.specs.Files.{Held, Inputs, AreRead, AreTold, Tell, WereRead, IsReached, as_problem, as_second}
 use Rattle.semgus_app.specs.Lines.{cannot_open_line, read_fault_line, none_line, valid_line, line_of}
 use Rattle.elab_core.specs.Judging.{Judges}
 use Rattle.semgus_app.specs.Outputs.{IsOutput, IsPrinted, NoneRose, due, cannot_open, read_fault}
 use Rattle.semgus_app.specs.Statuses.{IsJudged}
 use Rattle.semgus_app.specs.Tasks.{Task, NamedFile, Asks, solve, show, check, problem_file, second_file}
-use Rattle.semgus_app.proofs.Checking.{valid_solves}
+use Rattle.checking_core.proofs.Checking.{valid_solves}
 use Rattle.semgus_app.proofs.Dues.{due_judged, due_with, found_due, none_due, shown_due, valid_due, due_line, some_same, none_some}
 use Rattle.semgus_app.proofs.Tasks.{one_task}
 

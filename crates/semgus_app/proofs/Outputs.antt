@@ -14,9 +14,9 @@ use Rattle.semgus_app.specs.declared.command.Command.TheVariants as command
 use Rattle.semgus_app.specs.Commands.{task_of}
 use Rattle.elab_core.specs.declared.judge.Judge.{Judge}
 use Rattle.elab_core.specs.Feeding.{HasRoom, IsJudging}
-use Rattle.semgus_app.specs.declared.check.AnswerFile.{AnswerFile}
+use Rattle.checking_core.specs.declared.file.AnswerFile.{AnswerFile}
 use Rattle.semgus_app.specs.Contents.{AreContents, WasFedFile}
-use Rattle.semgus_app.specs.Reading.{CanEnd, IsReading}
+use Rattle.checking_core.specs.Reading.{CanEnd, IsReading}
 use Rattle.semgus_app.specs.Dues.{IsDue, refused}
 use Rattle.semgus_app.specs.Files.{Held, Inputs, AreRead, IsReached}
 use Rattle.semgus_app.specs.Lines.{cannot_open_line, read_fault_line, refusal_line}

@@ -6,10 +6,10 @@ use Rattle.semgus_app.specs.declared.status.Status.{Status}
 use Rattle.semgus_app.specs.declared.status.Status.TheVariants as status
 use Rattle.syntax_core.specs.declared.fault.Fault.{Fault}
 use Rattle.semgus_app.specs.declared.status.Which.TheVariants as which
-use Rattle.semgus_app.specs.declared.check.Checked.TheVariants as checked
-use Rattle.semgus_app.specs.declared.status.Flaw.{Flaw}
-use Rattle.semgus_app.specs.Answers.{IsAnswerText}
-use Rattle.semgus_app.specs.Checks.{Checks}
+use Rattle.checking_core.specs.declared.check.Checked.TheVariants as checked
+use Rattle.checking_core.specs.declared.check.Flaw.{Flaw}
+use Rattle.solution_core.specs.Answers.{IsAnswerText}
+use Rattle.checking_core.specs.Checks.{Checks}
 use Rattle.semgus_app.specs.Files.{Inputs}
 use Rattle.semgus_app.specs.Lines.{none_line, valid_line, flaw_line, refusal_line}
 use Rattle.elab_core.specs.Judging.{Judges}

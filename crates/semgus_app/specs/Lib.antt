@@ -1,12 +1,8 @@
-pub mod Answers
-pub mod Checks
 pub mod Commands
 pub mod Contents
 pub mod Dues
 pub mod Files
 pub mod Lines
 pub mod Outputs
-pub mod Reading
 pub mod Statuses
 pub mod Tasks
-pub mod Stepping

@@ -2,8 +2,8 @@
 use Rattle.std.specs.Prelude.{◌==◌, ℕ, List, ◌++◌, [], ◌∷◌, Option, Some, None, if◌then◌else◌, codes, decimal}
 use Rattle.syntax_core.specs.declared.fault.Fault.{Fault}
 use Rattle.answer_core.specs.AnswerText.{word}
-use Rattle.semgus_app.specs.declared.status.Flaw.{Flaw}
-use Rattle.semgus_app.specs.declared.status.Flaw.TheVariants as flaw
+use Rattle.checking_core.specs.declared.check.Flaw.{Flaw}
+use Rattle.checking_core.specs.declared.check.Flaw.TheVariants as flaw
 use Rattle.semgus_app.specs.declared.status.Status.{Status}
 use Rattle.semgus_app.specs.declared.status.Status.TheVariants as status
 use Rattle.semgus_app.specs.declared.status.Which.{Which}

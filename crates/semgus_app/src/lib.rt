@@ -2,10 +2,8 @@
 #![tactic(auto)]
 
 mod answer;
-mod check;
 mod command;
 mod contents;
-mod derivation;
 mod due;
 mod feed;
 mod judge;
@@ -17,8 +15,9 @@ mod status;
 mod task;
 
 pub use answer_core::AnswerFault;
+pub use checking_core::Flaw;
 pub use deriv_core::BadStep;
 pub use laws::{one_status, one_task};
 pub use program::run;
-pub use status::{Flaw, Status, Which};
+pub use status::{Status, Which};
 pub use syntax_core::Fault;

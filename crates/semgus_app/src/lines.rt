@@ -3,8 +3,9 @@ ghost use Rattle.answer_core.specs.AnswerText.{word};
 ghost use Rattle.semgus_app.specs.Lines.{cannot_open_line, read_fault_line, refusal_start, refusal_line, flaw_line, flaw_text};
 
 use crate::due::Due;
-use crate::status::{Flaw, Status, Which};
+use crate::status::{Status, Which};
 use answer_core::put_number;
+use checking_core::Flaw;
 use sig_core::Bytes;
 use std::alloc::{AllocError, Global};
 use syntax_core::Fault;

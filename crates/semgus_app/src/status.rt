@@ -1,8 +1,7 @@
 ghost use Rattle.std.specs.Prelude.{◌≡◌};
 ghost use Rattle.semgus_app.specs.Statuses.{number_of};
 
-use answer_core::AnswerFault;
-use deriv_core::BadStep;
+use checking_core::Flaw;
 use syntax_core::Fault;
 
 /// Which of the files that the words name.
@@ -10,23 +9,6 @@ use syntax_core::Fault;
 pub enum Which {
     Problem,
     Answer,
-}
-
-/// Why an answer file holds no answer to the problem: the first of these, in their order.
-#[derive(Clone, Copy, Debug, PartialEq, Eq)]
-pub enum Flaw {
-    /// a node of its forms is bad
-    Form(AnswerFault),
-    /// the nodes aren't the distinct subterms of the term in the order of terms
-    Nodes,
-    /// the size isn't the term's
-    Size,
-    /// the term isn't in the language
-    Grammar,
-    /// a step isn't valid
-    Step(BadStep),
-    /// the step of the constraint with this number has another fact
-    Constraint(u32),
 }
 
 /// How a run ended.

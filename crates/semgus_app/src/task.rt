@@ -1,16 +1,15 @@
 ghost use Rattle.std.specs.Prelude.{◌≡◌, ◌+◌, ◌≤◌, ℕ, List, Ok, IfOk};
 ghost use Rattle.std.specs.Option.{ForSome};
+ghost use Rattle.checking_core.specs.Reading.{CanEnd, IsReading};
+ghost use Rattle.solution_core.specs.Bounds.{IsHeight, IsSize};
 ghost use Rattle.semgus_app.specs.Commands.{task_of};
 ghost use Rattle.semgus_app.specs.Dues.{IsDue};
 ghost use Rattle.semgus_app.specs.Files.{Inputs, AreRead};
 ghost use Rattle.semgus_app.specs.Outputs.{IsOutput};
 ghost use Rattle.elab_core.specs.Feeding.{HasRoom, IsJudging};
 ghost use Rattle.elab_core.specs.Judging.{Judges};
-ghost use Rattle.semgus_app.specs.Reading.{CanEnd, IsReading};
-ghost use Rattle.semgus_app.specs.Tasks.{HasBounds, IsHeight, IsSize, most_of, most_taken, problem_file, second_file, solve, show, check};
+ghost use Rattle.semgus_app.specs.Tasks.{HasBounds, most_of, most_taken, problem_file, second_file, solve, show, check};
 
-use crate::answer::answer;
-use crate::check::{ANSWER_LIMIT, AnswerFile, Checked, check_answer};
 use crate::command::Command;
 use crate::contents::Contents;
 use crate::due::Due;
@@ -18,9 +17,11 @@ use crate::judge::{FILE_LIMIT, judgement};
 use crate::lines::{cannot_open, invalid, read_fault, refusal};
 use crate::read::read_file;
 use crate::status::{Status, Which};
+use checking_core::{ANSWER_LIMIT, AnswerFile, Checked, check_answer};
 use elab_core::Judge;
 use problem_core::Problem;
 use semgus_io::Files;
+use solution_core::answer;
 use std::alloc::{AllocError, Global};
 
 /// What a command comes to.

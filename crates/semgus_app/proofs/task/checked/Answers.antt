@@ -1,6 +1,6 @@
 use Rattle.std.proofs.Common.{refl}
 use Rattle.semgus_app.specs.Files.{as_second}
-use Rattle.semgus_app.specs.Reading.{IsReading}
+use Rattle.checking_core.specs.Reading.{IsReading}
 use Rattle.semgus_app.proofs.Outputs.{can_end, closed_output, failed_output, double_output}
 use Rattle.semgus_app.proofs.task.checked.Goals as goal
 

@@ -1,5 +1,0 @@
-use Rattle.semgus_app.proofs.Spellings.{fed, read_room}
-use Rattle.semgus_app.proofs.check.AnswerFileFeed.feed.Goals as goal
-
-pub read-requires : goal.read-requires
-read-requires c = let r = c.requires in read_room c.args.self.now r.0 _ r.1 r.2
