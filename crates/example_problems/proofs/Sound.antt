@@ -5,9 +5,8 @@ use Rattle.std.specs.List.{list_all}
 use Rattle.std.proofs.lemmas.List.Elements.{All-cons, All-nil}
 use Rattle.sig_core.specs.declared.ids.ConId.{ConId}
 use Rattle.sig_core.specs.declared.value.Value.TheVariants as value
-use Rattle.sig_core.specs.Names.{is_reserved, place_of, AreDistinct}
+use Rattle.sig_core.specs.Names.{is_reserved, place_of}
 use Rattle.sig_core.specs.WellFormed.{IsWellFormed, constructor_names, names_of_params}
-use Rattle.sig_core.proofs.NameLemmas.{AreDistinct-push}
 use Rattle.expr_core.specs.declared.expr.Expr.{the_lemmas}
 use Rattle.expr_core.specs.declared.expr.Expr.TheVariants.{Lit}
 use Rattle.rule_core.specs.declared.rule.Rule.{Rule}
@@ -23,31 +22,16 @@ use Rattle.grammar_core.specs.Whole.{whole}
 use Rattle.problem_core.specs.declared.parts.Constraint.{Constraint}
 use Rattle.problem_core.specs.Soundness.{IsShort, IsSound, IsSoundConstraint, IsSoundGrammar, IsSoundNonterminal, IsSoundRule, wanted_type, is_clean, is_clean_atom, is_sort_name}
 use Rattle.problem_core.specs.Views.{parts}
+use Rattle.example_relations.proofs.Fits.{constant_free}
+use Rattle.example_relations.proofs.Names.{distinct_by_test}
 use Rattle.example_problems.specs.Examples.{example, gives, gives_value, the_type, wanted_value}
-
-pub free_t : is_reserved (codes "t") ≡ false
-unfolding is_reserved
-free_t = refl
-
-pub free_r : is_reserved (codes "r") ≡ false
-unfolding is_reserved
-free_r = refl
 
 free_S : is_reserved (codes "S") ≡ false
 unfolding is_reserved
 free_S = refl
 
-alone : (name : List ℕ) → AreDistinct (name ∷ [])
-alone name = AreDistinct-push [] name refl (λ i j d l m. absurd (omega arith))
-
-pub names_differ : AreDistinct (codes "t" ∷ codes "r" ∷ [])
-names_differ = AreDistinct-push (codes "t" ∷ []) (codes "r") refl (alone (codes "t"))
-
 two : (P : List ℕ → Type 0) → P (codes "t") → P (codes "r") → All P (codes "t" ∷ codes "r" ∷ [])
 two P t r = All-cons P (codes "t") (codes "r" ∷ []) t (All-cons P (codes "r") [] r (All-nil P))
-
-pub names_free : All (λ name. is_reserved name ≡ false) (codes "t" ∷ codes "r" ∷ [])
-names_free = two (λ name. is_reserved name ≡ false) free_t free_r
 
 clean_value : (n : ℕ) → is_clean (Lit (value.Int (pos n))) ≡ true
 clean_value n = search (rules, the_lemmas)
@@ -68,8 +52,8 @@ rule_sound con n rule e h fits flows = subst (IsSoundRule example) (sym e) recor
   flows = sym (ap (flow_fault example) e) ∙ flows;
   children = without_children con h;
   few_variables = lit≤ tt;
-  distinct = names_differ;
-  free = names_free;
+  distinct = distinct_by_test (codes "t" ∷ codes "r" ∷ []) refl;
+  free = constant_free;
   short = two IsShort (lit≤ tt) (lit≤ tt);
   clean = clean_rule n;
 }

@@ -1,10 +1,10 @@
 -- The problem of the shifts is sound.
-use Rattle.std.proofs.Common.{◌≡◌, ◌<◌, ℕ, true, false, None, List, [], ◌∷◌, slice_get, All, refl, sym, ap, ◌∙◌, subst, arith}
+use Rattle.std.proofs.Common.{◌≡◌, ℕ, true, false, None, List, [], ◌∷◌, slice_get, All, refl, sym, ap, ◌∙◌, subst, arith}
 use Rattle.std.specs.Prelude.{codes}
 use Rattle.std.proofs.lemmas.List.Elements.{All-cons, All-from_recursion, All-head, All-nil, All-tail}
 use Rattle.sig_core.specs.declared.signature.Relation.{Relation}
 use Rattle.sig_core.specs.Names.{is_reserved}
-use Rattle.sig_core.specs.WellFormed.{IsRelation, IsWellFormed, constructor_names, names_of_params}
+use Rattle.sig_core.specs.WellFormed.{IsWellFormed, constructor_names, names_of_params}
 use Rattle.rule_core.specs.declared.rule.Rule.{Rule}
 use Rattle.rule_core.specs.Flow.{flow_fault}
 use Rattle.grammar_core.specs.declared.production.Nonterminal.{Nonterminal}
@@ -20,21 +20,10 @@ use Rattle.problem_core.specs.Views.{parts}
 use Rattle.problem_core.specs.Soundness.{HasFreeNames, HasShortNames, IsShort, IsSound, IsSoundConstraint, IsSoundGrammar, IsSoundNonterminal, IsSoundRule, is_sort_name}
 use Rattle.eval_core.specs.ShiftExample.{expression, gives, int, shift_problem, shift_rule, shifts, x_rule, zero_rule}
 use Rattle.example_shifts.specs.Stages.{gives_relation}
-use Rattle.example_shifts.proofs.Lists.{distinct_by_test, free_by_test, short_by_test}
+use Rattle.example_relations.proofs.Fits.{unary_free}
+use Rattle.example_relations.proofs.Names.{distinct_by_test, free_by_test}
+use Rattle.example_shifts.proofs.Lists.{short_by_test}
 use Rattle.example_shifts.proofs.Fitting.{shift_clean, shift_fits, x_clean, x_fits, zero_clean, zero_fits}
-
-params_free : All (λ name. is_reserved name ≡ false) (codes "t" ∷ codes "x" ∷ codes "r" ∷ [])
-unfolding is_reserved
-params_free = free_by_test (codes "t" ∷ codes "x" ∷ codes "r" ∷ []) refl
-
-pub gives_fits : (types : ℕ) → 0 < types → IsRelation types gives_relation
-gives_fits types low = record {
-  term = expression;
-  one_term = refl;
-  declared = low;
-  distinct = distinct_by_test (names_of_params gives_relation.params) refl;
-  free = params_free;
-}
 
 shift_free : All (λ name. is_reserved name ≡ false) (codes "t" ∷ codes "x" ∷ codes "r" ∷ codes "u" ∷ codes "q" ∷ [])
 unfolding is_reserved
@@ -51,7 +40,7 @@ zero_sound flows = record {
   children = refl;
   few_variables = omega arith;
   distinct = distinct_by_test (codes "t" ∷ codes "x" ∷ codes "r" ∷ []) refl;
-  free = params_free;
+  free = unary_free;
   short = short_by_test (codes "t" ∷ codes "x" ∷ codes "r" ∷ []) refl;
   clean = zero_clean;
 }
@@ -63,7 +52,7 @@ x_sound flows = record {
   children = refl;
   few_variables = omega arith;
   distinct = distinct_by_test (codes "t" ∷ codes "x" ∷ codes "r" ∷ []) refl;
-  free = params_free;
+  free = unary_free;
   short = short_by_test (codes "t" ∷ codes "x" ∷ codes "r" ∷ []) refl;
   clean = x_clean;
 }

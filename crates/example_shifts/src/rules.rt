@@ -90,14 +90,54 @@ fn add(book: &mut Rulebook, signature: &Signature, rule: Rule) -> Result<(), Add
     book.add(signature, rule)
 }
 
+fn add_zero(alloc: Global, signature: &Signature, book: &mut Rulebook) -> Result<(), AddError>
+    requires signature { signature.now ≡ shifts }
+    requires short { length book.old < 3 }
+    ensures added { OnOk result (book.new ≡ book.old ++ zero_rule ∷ []) }
+    ensures flows { OnOk result (flow_fault shifts zero_rule ≡ None) }
+{
+    let rule = zero_rule(alloc)?;
+    add(book, signature, rule)
+}
+
+fn add_x(alloc: Global, signature: &Signature, book: &mut Rulebook) -> Result<(), AddError>
+    requires signature { signature.now ≡ shifts }
+    requires short { length book.old < 3 }
+    ensures added { OnOk result (book.new ≡ book.old ++ x_rule ∷ []) }
+    ensures flows { OnOk result (flow_fault shifts x_rule ≡ None) }
+{
+    let rule = x_rule(alloc)?;
+    add(book, signature, rule)
+}
+
+fn add_shift(alloc: Global, signature: &Signature, book: &mut Rulebook) -> Result<(), AddError>
+    requires signature { signature.now ≡ shifts }
+    requires short { length book.old < 3 }
+    ensures added { OnOk result (book.new ≡ book.old ++ shift_rule ∷ []) }
+    ensures flows { OnOk result (flow_fault shifts shift_rule ≡ None) }
+{
+    let rule = shift_rule(alloc)?;
+    add(book, signature, rule)
+}
+
+/// Adds the three rules to an empty book.
+fn fill(alloc: Global, signature: &Signature, book: &mut Rulebook) -> Result<(), AddError>
+    requires signature { signature.now ≡ shifts }
+    requires empty { book.old ≡ [] }
+    ensures value { OnOk result (book.new ≡ shift_problem.rules) }
+    ensures flows { OnOk result (All (λ rule. flow_fault shifts rule ≡ None) shift_problem.rules) }
+{
+    add_zero(alloc, signature, book)?;
+    add_x(alloc, signature, book)?;
+    add_shift(alloc, signature, book)
+}
+
 pub fn book(alloc: Global, signature: &Signature) -> Result<Rulebook, AddError>
     requires { signature.now ≡ shifts }
     ensures value { IfOk result (λ book. book ≡ shift_problem.rules) }
     ensures flows { IfOk result (λ book. All (λ rule. flow_fault shifts rule ≡ None) shift_problem.rules) }
 {
     let mut book = Rulebook::new(alloc);
-    add(&mut book, signature, zero_rule(alloc)?)?;
-    add(&mut book, signature, x_rule(alloc)?)?;
-    add(&mut book, signature, shift_rule(alloc)?)?;
+    fill(alloc, signature, &mut book)?;
     Ok(book)
 }

@@ -1,6 +1,10 @@
-use Rattle.std.proofs.Common.{arith}
-use Rattle.example_shifts.proofs.Sound.{gives_fits}
+use Rattle.std.proofs.Common.{◌<◌, arith}
+use Rattle.std.specs.Prelude.{codes}
+use Rattle.eval_core.specs.ShiftExample.{expression}
+use Rattle.example_relations.proofs.Fits.{unary_fits}
 use Rattle.example_shifts.proofs.language.shifts.Goals as goal
 
 pub add_relation-requires : goal.add_relation-requires
-add_relation-requires c = rw (c.in_ok-gives.ensures, c.in_ok-signature.ensures) (gives_fits 1 (omega arith))
+add_relation-requires c =
+    let one : 0 < 1 = omega arith in
+    rw (c.in_ok-gives.ensures, c.in_ok-signature.ensures) (unary_fits 1 expression (codes "gives") one)
