@@ -12,6 +12,7 @@ pub mod Fits
 pub mod FormInduction
 pub mod GrammarFits
 pub mod NextItems
+pub mod Parts
 pub mod Productions
 pub mod RuleFacts
 pub mod ShapedForms

@@ -1,9 +1,9 @@
 //! The rules of functions, put into a book of rules up to the first that data flow refuses.
-ghost use Rattle.std.specs.Prelude.{◌≡◌, ◌≤◌, ◌+◌, ◌++◌, None, length, sum_by, All, IfErr, OnOk};
+ghost use Rattle.std.specs.Prelude.{◌≡◌, ◌≤◌, ◌+◌, ◌++◌, None, length, sum_by, All, IfErr, OnOk, OnErr};
 ghost use Rattle.std.specs.List.{flat_map};
 ghost use Rattle.sort_core.specs.Errors.{IsDue};
 ghost use Rattle.name_core.specs.Faults.{first};
-ghost use Rattle.making_core.specs.Rules.{HasFewPlain, HasRules, case_flow, case_rules};
+ghost use Rattle.making_core.specs.Rules.{HasFewPlain, HasRules, IsPart, case_flow, case_rules};
 
 use crate::rules::add_case;
 use rule_core::Rulebook;
@@ -14,7 +14,7 @@ use std::alloc::Global;
 /// Puts the rules of cases last, in order, up to the first that data flow refuses.
 ///
 /// `Fault` is that of the first such rule: reason 40 at its first atom that uses an unknown variable, 41 at the leaf whose
-/// output isn't known, 42 at the pair of an existential that isn't known.
+/// output isn't known, 42 at the pair of an existential that isn't known. After an error a first part of the rules was added.
 #[tactic(auto, using(name_core::proofs::Firsts::firsts))]
 pub fn add_cases(
     alloc: Global,
@@ -28,6 +28,7 @@ pub fn add_cases(
     ensures fault { IfErr result (IsDue (first (flat_map (case_flow signature.now) cases.now))) }
     ensures fine { OnOk result (first (flat_map (case_flow signature.now) cases.now) ≡ None) }
     ensures added { OnOk result (rulebook.new ≡ rulebook.old ++ flat_map (case_rules signature.now) cases.now) }
+    ensures part { OnErr result (IsPart rulebook.old rulebook.new (flat_map (case_rules signature.now) cases.now)) }
 {
     for case in cases {
         match add_case(alloc, signature, rulebook, case) {

@@ -7,7 +7,7 @@ ghost use Rattle.rule_core.specs.Rulebooks.{IsRuleOf};
 ghost use Rattle.sort_core.specs.Errors.{IsDue};
 ghost use Rattle.name_core.specs.Faults.{first};
 ghost use Rattle.sort_core.specs.Relations.{sort_named};
-ghost use Rattle.making_core.specs.Rules.{HasRules, case_flow, case_rules, flow_refusal, place_of_open, place_of_pair, rule_of, var_of};
+ghost use Rattle.making_core.specs.Rules.{HasRules, IsPart, case_flow, case_rules, flow_refusal, place_of_open, place_of_pair, rule_of, var_of};
 
 use crate::making::atoms_from;
 use items::at;
@@ -134,6 +134,7 @@ pub(crate) fn add_case(
     ensures fault { IfErr result (IsDue (first (case_flow signature.now case.now))) }
     ensures fine { OnOk result (first (case_flow signature.now case.now) ≡ None) }
     ensures added { OnOk result (rulebook.new ≡ rulebook.old ++ case_rules signature.now case.now) }
+    ensures part { OnErr result (IsPart rulebook.old rulebook.new (case_rules signature.now case.now)) }
 {
     for branch in case.branches.as_slice() {
         match add_rule(

@@ -11,5 +11,6 @@ abbrev pub invariant-loop-case : goal.invariant-loop-case
 invariant-loop-case l = record {
   among : first (flat_map (case_flow l.signature) (drop l.case-index l.cases)) ≡ first (flat_map (case_flow l.signature) l.cases);
   made : l.rulebook ++ flat_map (case_rules l.signature) (drop l.case-index l.cases) ≡ l.fn.rulebook ++ flat_map (case_rules l.signature) l.cases;
+  grown : length l.fn.rulebook ≤ length l.rulebook;
   room : length l.rulebook + sum_by (λ (case : OpenCase). length case.branches) (drop l.case-index l.cases) ≤ 16384;
 }
