@@ -19,7 +19,8 @@ use Rattle.name_core.specs.States.{start}
 use Rattle.elab_core.specs.declared.judge.Judge.{Judge}
 use Rattle.elab_core.specs.Elaborating.{answered, made, next}
 use Rattle.elab_core.specs.Feeding.{HasRoom, IsAnswered, IsEnding, IsJudgement, IsJudging, IsRest}
-use Rattle.elab_core.specs.Judging.{Judges, Outcome, after, closed, cut_short, stands, step, too_long, spelled, misspelled}
+use Rattle.state_core.specs.Commands.{Outcome, stands, step}
+use Rattle.elab_core.specs.Judging.{Judges, after, closed, cut_short, too_long, spelled, misspelled}
 
 pub read_room : (judge : Judge) (more : ℕ) → HasRoom judge more → bytes_fed judge.reader + more < 2 ^ 32
 read_room judge more r = omega (arith, r.judging.reads.count, r.room)

@@ -10,7 +10,8 @@ use Rattle.sexpr_core.proofs.PrefixesOnce.{complete_once, fault_once}
 use Rattle.sexpr_core.proofs.Runs.{completes, judged_fault}
 use Rattle.problem_core.specs.Problems.{Parts}
 use Rattle.syntax_core.specs.declared.fault.Fault.{Fault}
-use Rattle.elab_core.specs.Judging.{Judges, too_long, spelled, misspelled, after, closed, cut_short, stands}
+use Rattle.state_core.specs.Commands.{stands}
+use Rattle.elab_core.specs.Judging.{Judges, too_long, spelled, misspelled, after, closed, cut_short}
 use Rattle.name_core.specs.States.{start}
 
 -- what is judged of these complete forms before this fault

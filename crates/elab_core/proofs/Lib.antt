@@ -1,12 +1,3 @@
-pub mod Growing
-pub mod Soundings
-pub mod Outcomes
-pub mod Judgements
-pub mod RuleSoundness
-pub mod Relating
-pub mod CaseNames
-pub mod ApartFunctions
-pub mod FunctionsTaken
-pub mod Groupings
-pub mod GrammarSoundness
 pub mod Judged
+pub mod Judgements
+pub mod Outcomes

@@ -1,6 +1,5 @@
 -- What an elaborator stands for, and what it answers.
 use Rattle.std.specs.Prelude.{◌≡◌, ℕ, Bool, true, false, Option, Some, None, option_map, Result, Ok, Err}
-use Rattle.std.specs.Option.{option_map_or}
 use Rattle.sexpr_core.specs.declared.form.Sexpr.{Sexpr}
 use Rattle.problem_core.specs.Problems.{Parts}
 use Rattle.syntax_core.specs.declared.fault.Fault.{Fault}
@@ -8,11 +7,8 @@ use Rattle.elab_core.specs.declared.elaborator.Standing.{Standing}
 use Rattle.elab_core.specs.declared.elaborator.Standing.TheVariants as standing
 use Rattle.sort_core.specs.declared.error.ElabError.{ElabError}
 use Rattle.sort_core.specs.declared.error.ElabError.TheVariants as error
-use Rattle.syntax_core.specs.declared.commands.Head.{Head}
-use Rattle.name_core.specs.Faults.{first}
-use Rattle.elab_core.specs.Judging.{Outcome, stands, refused, closed, command_fault, faults_in, judged, may_come, step}
-use Rattle.making_core.specs.Making.{added}
-use Rattle.name_core.specs.States.{State}
+use Rattle.state_core.specs.Commands.{Outcome, stands, refused, step}
+use Rattle.elab_core.specs.Judging.{closed}
 use Rattle.making_core.specs.Soundness.{IsSoundState}
 
 -- the outcome of the commands so far; none once memory was wanted
@@ -53,11 +49,6 @@ abbrev pub IsRefusedAfter : Option Outcome → Sexpr → ElabError → Type 0
 IsRefusedAfter old form (error.Fault fault) = next old form ≡ Some (refused fault)
 IsRefusedAfter old form error.Memory = Unit {0}
 
--- the outcome is this refusal, or memory was wanted
-abbrev pub IsRefusal : Outcome → ElabError → Type 0
-IsRefusal outcome (error.Fault fault) = outcome ≡ refused fault
-IsRefusal outcome error.Memory = Unit {0}
-
 abbrev pub answered : Result Parts Fault → Result Parts ElabError
 answered (Ok problem) = Ok problem
 answered (Err fault) = Err (error.Fault fault)
@@ -66,17 +57,6 @@ answered (Err fault) = Err (error.Fault fault)
 abbrev pub made : ℕ → Option Outcome → Result Parts ElabError
 made end None = Err error.Memory
 made end (Some outcome) = answered (closed end outcome)
-
--- the form is judged as this command, which may come
-pub record IsJudgedAs (s : State) (h : Head) (form : Sexpr) : Type 0 where
-  pub come : may_come s h ≡ true
-  pub is : judged s form ≡ option_map_or Err (command_fault s h form) (Ok h)
-
--- a command that has no fault was added, and what has been stated still fits
-pub record IsTaken (old : State) (h : Head) (form : Sexpr) (new : State) : Type 0 where
-  pub fine : first (faults_in old h form) ≡ None
-  pub is_added : new ≡ added old h form
-  pub sound : IsSoundState new
 
 -- the first refusal, if there was one
 abbrev pub fault_of : Outcome → Option Fault

@@ -10,7 +10,8 @@ use Rattle.sort_core.specs.declared.error.ElabError.{ElabError}
 use Rattle.sort_core.specs.declared.error.ElabError.TheVariants as error
 use Rattle.name_core.specs.States.{start}
 use Rattle.elab_core.specs.declared.judge.Judge.{Judge}
-use Rattle.elab_core.specs.Judging.{Judges, Outcome, after, closed, cut_short, stands}
+use Rattle.state_core.specs.Commands.{Outcome, stands}
+use Rattle.elab_core.specs.Judging.{Judges, after, closed, cut_short}
 
 -- these bytes were fed, in whatever pieces, and the forms that they give were judged
 pub record IsJudging (judge : Judge) (bytes : List ℕ) : Type 0 where

@@ -2,15 +2,16 @@ ghost use Rattle.std.specs.Prelude.{◌≡◌, IsTrue, Some, Err, OnOk, IfErr};
 ghost use Rattle.sort_core.specs.declared.error.ElabError.TheVariants as Error;
 ghost use Rattle.syntax_core.specs.declared.fault.Fault;
 ghost use Rattle.elab_core.specs.Elaborating.{IsNotTaken, IsRefusedAfter, IsSoundStanding, answered, fault_in, is_standing, made, next, outcome_in, standing_after};
-ghost use Rattle.elab_core.specs.Judging.{closed, refused, stands};
+ghost use Rattle.state_core.specs.Commands.{refused, stands};
+ghost use Rattle.elab_core.specs.Judging.{closed};
 ghost use Rattle.making_core.specs.Soundness.{IsSoundState};
 ghost use Rattle.name_core.specs.States.{start};
 ghost use Rattle.sexpr_core.specs.Sizes.{IsSmall};
 
-use crate::stated::{StatedParts, WantedFunction};
 use problem_core::Problem;
 use sexpr_core::Sexpr;
 use sort_core::ElabError;
+use state_core::{StatedParts, WantedFunction};
 use std::alloc::Global;
 use std::marker::Model;
 use syntax_core::{Fault, refusal};
@@ -37,7 +38,7 @@ impl Model for Elaborator {
     ghost use Rattle.std.specs.Coded.{codes};
     ghost use Rattle.expr_core.specs.contracts.expr.Expr as expr;
     ghost use Rattle.elab_core.specs.Elaborating.{IsSoundStanding, outcome_in};
-    ghost use Rattle.elab_core.specs.Judging.{Outcome};
+    ghost use Rattle.state_core.specs.Commands.{Outcome};
 
     ghost Value = { Option Outcome };
 

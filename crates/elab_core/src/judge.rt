@@ -6,7 +6,8 @@ ghost use Rattle.sexpr_core.specs.Sizes.{IsSmall};
 ghost use Rattle.elab_core.specs.Elaborating.{fault_in, next};
 ghost use Rattle.name_core.specs.States.{start};
 ghost use Rattle.elab_core.specs.Feeding.{HasRoom, IsEnding, IsJudgement, IsJudging, IsRest};
-ghost use Rattle.elab_core.specs.Judging.{Outcome, after, cut_short, stands};
+ghost use Rattle.state_core.specs.Commands.{Outcome, stands};
+ghost use Rattle.elab_core.specs.Judging.{after, cut_short};
 ghost use Rattle.sort_core.specs.declared.error.ElabError.TheVariants as error;
 
 use crate::elaborator::Elaborator;

@@ -1,18 +1,9 @@
 //! Problem files: their commands are judged one after the other, and make a problem.
 #![tactic(auto)]
 
-mod commands;
-mod constraints;
-mod declaring;
-mod defining;
 mod elaborator;
 mod judge;
 mod laws;
-mod stated;
-mod taking;
-mod taking_terms;
-mod taking_wanted;
-mod wanting;
 
 pub use elaborator::Elaborator;
 pub use judge::Judge;

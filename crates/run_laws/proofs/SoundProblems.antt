@@ -26,17 +26,18 @@ use Rattle.name_core.specs.Names.{declaration_names, names}
 use Rattle.name_core.specs.States.{State, Wanted, start}
 use Rattle.sort_core.specs.Relations.{declared_with}
 use Rattle.sort_core.specs.Sorts.{declaration_faults, functions_faults}
-use Rattle.elab_core.specs.Elaborating.{IsJudgedAs}
-use Rattle.elab_core.specs.Judging.{Judges, Outcome, after, closed, command_fault, faults_in, flow, judged, judged_from, may_come, outcome_of, parts_of, refused, stands, stated_by, step, too_long, spelled, misspelled, word_fault}
+use Rattle.state_core.specs.Taking.{IsJudgedAs}
+use Rattle.state_core.specs.Commands.{Outcome, command_fault, faults_in, flow, judged, judged_from, may_come, outcome_of, refused, stands, step, word_fault}
+use Rattle.elab_core.specs.Judging.{Judges, after, closed, parts_of, stated_by, too_long, spelled, misspelled}
 use Rattle.making_core.specs.Making.{added}
 use Rattle.making_core.specs.Soundness.{IsSoundState, IsSoundWanted}
 use Rattle.making_core.proofs.Declaring.{relations_fit}
 use Rattle.making_core.proofs.Fits.{none-left, none-right}
-use Rattle.elab_core.proofs.FunctionsTaken.{functions_taken}
-use Rattle.elab_core.proofs.GrammarSoundness.{wanted_taken}
-use Rattle.elab_core.proofs.Groupings.{as_many_types, of_word}
-use Rattle.elab_core.proofs.Growing.{terms_taken}
-use Rattle.elab_core.proofs.Soundings.{constraints_taken}
+use Rattle.state_core.proofs.FunctionsTaken.{functions_taken}
+use Rattle.state_core.proofs.GrammarSoundness.{wanted_taken}
+use Rattle.state_core.proofs.Groupings.{as_many_types, of_word}
+use Rattle.state_core.proofs.Growing.{terms_taken}
+use Rattle.state_core.proofs.Soundings.{constraints_taken}
 use Rattle.making_core.proofs.Terms.{terms_fit}
 use Rattle.run_laws.specs.Laws.{JudgedProblemsAreSound}
 use Rattle.run_laws.proofs.FormedSignatures.{functions_formed, terms_formed}

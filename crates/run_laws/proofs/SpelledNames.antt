@@ -19,7 +19,8 @@ use Rattle.name_core.specs.States.{State, Wanted, start}
 use Rattle.sort_core.specs.Relations.{relation_of}
 use Rattle.making_core.specs.Making.{added, constructor_of, constructors_of, with_types}
 use Rattle.elab_core.specs.Judging as judging
-use Rattle.elab_core.specs.Judging.{Judges, Outcome, after, closed, judged, outcome_of, refused, stands, step, stated_by, too_long, spelled, misspelled}
+use Rattle.state_core.specs.Commands.{Outcome, judged, outcome_of, refused, stands, step}
+use Rattle.elab_core.specs.Judging.{Judges, after, closed, stated_by, too_long, spelled, misspelled}
 use Rattle.answer_laws.specs.Names.{CanBeSpelled, HasSpelledNames}
 use Rattle.run_laws.specs.Laws.{JudgedNamesAreSpelled}
 use Rattle.run_laws.proofs.SpelledForms.{IsNamed, each_named, item_named, items_named, name_spelled, parts_named}

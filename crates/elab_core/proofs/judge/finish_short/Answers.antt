@@ -1,5 +1,6 @@
 use Rattle.name_core.specs.States.{start}
-use Rattle.elab_core.specs.Judging.{after, stands}
+use Rattle.state_core.specs.Commands.{stands}
+use Rattle.elab_core.specs.Judging.{after}
 use Rattle.elab_core.proofs.Judged.{ended, ending_small}
 use Rattle.elab_core.proofs.judge.finish_short.Goals as goal
 

@@ -1,6 +1,7 @@
 use Rattle.std.proofs.Common.{◌+◌, Option, option_map, drop, sym, ap, ◌∙◌, arith}
 use Rattle.std.specs.Option.{option_copied}
-use Rattle.elab_core.specs.Judging.{Outcome, after}
+use Rattle.state_core.specs.Commands.{Outcome}
+use Rattle.elab_core.specs.Judging.{after}
 use Rattle.elab_core.proofs.Judged.{judged_next, no_form}
 use Rattle.elab_core.proofs.judge.judge_all.Goals as goal
 use Rattle.elab_core.proofs.judge.judge_all.Goals.{in-Some+in_ok-judge_one, in_default}

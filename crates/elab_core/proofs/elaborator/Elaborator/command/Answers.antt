@@ -1,7 +1,7 @@
 use Rattle.std.proofs.Common.{Option, sym, subst}
 use Rattle.elab_core.specs.declared.elaborator.Standing.{Standing}
 use Rattle.elab_core.specs.Elaborating.{IsNotTaken, IsRefusedAfter, IsSoundStanding, outcome_in}
-use Rattle.elab_core.specs.Judging.{Outcome}
+use Rattle.state_core.specs.Commands.{Outcome}
 use Rattle.elab_core.proofs.Outcomes.{no_state, not_taken}
 use Rattle.elab_core.proofs.elaborator.Elaborator.command.Goals as goal
 

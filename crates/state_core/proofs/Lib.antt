@@ -1,0 +1,10 @@
+pub mod ApartFunctions
+pub mod CaseNames
+pub mod FunctionsTaken
+pub mod GrammarSoundness
+pub mod Groupings
+pub mod Growing
+pub mod Outcomes
+pub mod Relating
+pub mod RuleSoundness
+pub mod Soundings
