@@ -1,7 +1,7 @@
 //! The text of the answer to a problem: its first term, with derivations of its constraints.
 #![tactic(auto)]
 
-mod answer;
+mod answering;
 mod derivation;
 
-pub use answer::answer;
+pub use answering::answer;
