@@ -129,7 +129,8 @@ fn fill(alloc: Global, signature: &Signature, book: &mut Rulebook) -> Result<(),
 {
     add_zero(alloc, signature, book)?;
     add_x(alloc, signature, book)?;
-    add_shift(alloc, signature, book)
+    add_shift(alloc, signature, book)?;
+    Ok(())
 }
 
 pub fn book(alloc: Global, signature: &Signature) -> Result<Rulebook, AddError>
