@@ -1,5 +1,5 @@
 -- What files in memory tell.
-use Rattle.std.specs.Prelude.{ℕ, List, Option, Some}
+use Rattle.std.specs.Prelude.{◌≡◌, ℕ, List, Option, Some}
 use Rattle.semgus_io.specs.Entries.{bytes_of, left_at}
 use Rattle.semgus_io.specs.declared.memory_files.MemoryFiles.{MemoryFiles}
 
@@ -28,3 +28,11 @@ begins m = m.begins
 
 abbrev pub takes : MemoryFiles → ℕ
 takes m = m.takes
+
+-- the counts of failed opens, of failed reads and of bytes taken stay
+abbrev pub SameCounts : MemoryFiles → MemoryFiles → Type 0
+SameCounts old new = (new.open_faults ≡ old.open_faults) × (new.read_faults ≡ old.read_faults) × (new.taken ≡ old.taken)
+
+-- the calls that are to fail stay
+abbrev pub SameFailing : MemoryFiles → MemoryFiles → Type 0
+SameFailing old new = (failing_begins new ≡ failing_begins old) × (failing_takes new ≡ failing_takes old)

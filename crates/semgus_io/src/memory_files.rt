@@ -1,4 +1,4 @@
-ghost use Rattle.std.specs.Prelude.{◌≡◌, ◌≢◌, ◌<◌, [], ◌∷◌, ◌++◌, ℕ, List, Some, None, OnOk, OnErr};
+ghost use Rattle.std.specs.Prelude.{◌≡◌, ◌≢◌, ◌<◌, ◌-◌, ◌^◌, [], ◌∷◌, ◌++◌, ℕ, List, Some, None, OnOk, OnErr};
 
 use crate::entry::{Entry, Place, copy_from, find};
 use crate::{Failed, Files};
@@ -24,12 +24,16 @@ pub struct MemoryFiles {
 }
 
 impl MemoryFiles {
-    ghost use Rattle.semgus_io.specs.Memory.{begins, failing_begins, failing_takes, held, most_at_once, takes};
+    ghost use Rattle.semgus_io.specs.Memory.{SameCounts, SameFailing, begins, failing_begins, failing_takes, held, left, most_at_once, takes};
 
     /// Holds no file. A take gives as many bytes as there are and its buffer has room for.
     pub fn new(alloc: Global) -> MemoryFiles
         ensures held { (name : List ℕ) → held result name ≡ Some None }
         ensures calls { (begins result ≡ 0) × (takes result ≡ 0) }
+        ensures failing { (failing_begins result ≡ []) × (failing_takes result ≡ []) }
+        ensures counts { (result.open_faults ≡ 0) × (result.read_faults ≡ 0) × (result.taken ≡ 0) }
+        ensures left { left result ≡ Some [] }
+        ensures most { most_at_once result ≡ 2 ^ 64 - 1 }
     {
         MemoryFiles {
             entries: Vec::new(alloc),
@@ -52,6 +56,11 @@ impl MemoryFiles {
         ensures others { (other : List ℕ) → other ≢ name.now → held self.new other ≡ held self.old other }
         ensures err { OnErr result ((other : List ℕ) → held self.new other ≡ held self.old other) }
         ensures calls { (begins self.new ≡ begins self.old) × (takes self.new ≡ takes self.old) }
+        ensures counts { SameCounts self.old self.new }
+        ensures ended { OnOk result (left self.new ≡ Some []) }
+        ensures goes_on { OnErr result (left self.new ≡ left self.old) }
+        ensures most { most_at_once self.new ≡ most_at_once self.old }
+        ensures failing { SameFailing self.old self.new }
     {
         let mut entry = Entry::new(self.alloc);
         entry.name.append(name.as_bytes())?;
@@ -67,6 +76,9 @@ impl MemoryFiles {
         ensures most { most_at_once self.new ≡ n }
         ensures held { (name : List ℕ) → held self.new name ≡ held self.old name }
         ensures calls { (begins self.new ≡ begins self.old) × (takes self.new ≡ takes self.old) }
+        ensures counts { SameCounts self.old self.new }
+        ensures left { left self.new ≡ left self.old }
+        ensures failing { SameFailing self.old self.new }
     {
         self.most_at_once = n;
     }
@@ -77,6 +89,10 @@ impl MemoryFiles {
         ensures err { OnErr result (failing_begins self.new ≡ failing_begins self.old) }
         ensures held { (name : List ℕ) → held self.new name ≡ held self.old name }
         ensures calls { (begins self.new ≡ begins self.old) × (takes self.new ≡ takes self.old) }
+        ensures counts { SameCounts self.old self.new }
+        ensures left { left self.new ≡ left self.old }
+        ensures others { failing_takes self.new ≡ failing_takes self.old }
+        ensures most { most_at_once self.new ≡ most_at_once self.old }
     {
         self.failing_begins.push(k)
     }
@@ -87,6 +103,10 @@ impl MemoryFiles {
         ensures err { OnErr result (failing_takes self.new ≡ failing_takes self.old) }
         ensures held { (name : List ℕ) → held self.new name ≡ held self.old name }
         ensures calls { (begins self.new ≡ begins self.old) × (takes self.new ≡ takes self.old) }
+        ensures counts { SameCounts self.old self.new }
+        ensures left { left self.new ≡ left self.old }
+        ensures others { failing_begins self.new ≡ failing_begins self.old }
+        ensures most { most_at_once self.new ≡ most_at_once self.old }
     {
         self.failing_takes.push(k)
     }

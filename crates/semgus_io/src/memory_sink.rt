@@ -1,4 +1,4 @@
-ghost use Rattle.std.specs.Prelude.{◌≡◌, ◌<◌, ◌≤◌, ◌+◌, [], IfOk, OnOk, OnErr, ◌∷◌, ◌++◌, length, take, drop, vec_len};
+ghost use Rattle.std.specs.Prelude.{◌≡◌, ◌<◌, ◌≤◌, ◌+◌, ◌-◌, ◌^◌, [], IfOk, OnOk, OnErr, ◌∷◌, ◌++◌, length, take, drop, vec_len};
 
 use crate::{Failed, Sink};
 use items::Items;
@@ -21,7 +21,9 @@ impl MemorySink {
     ghost use Rattle.semgus_io.specs.MemorySinks.{failing_puts, most_at_once, puts, room_of, taken_bytes};
 
     pub fn new(alloc: Global, room: usize) -> Result<MemorySink, AllocError>
-        ensures { IfOk result (λ sink. (taken_bytes sink ≡ []) × (puts sink ≡ 0) × (room_of sink ≡ room)) }
+        ensures empty { IfOk result (λ sink. (taken_bytes sink ≡ []) × (puts sink ≡ 0) × (room_of sink ≡ room)) }
+        ensures counts { IfOk result (λ sink. (sink.faults ≡ 0) × (failing_puts sink ≡ [])) }
+        ensures most { IfOk result (λ sink. most_at_once sink ≡ 2 ^ 64 - 1) }
     {
         Ok(MemorySink {
             room: vec![in alloc; 0; room]?,
@@ -39,6 +41,8 @@ impl MemorySink {
         ensures most { most_at_once self.new ≡ n }
         ensures taken { taken_bytes self.new ≡ taken_bytes self.old }
         ensures same { (puts self.new ≡ puts self.old) × (room_of self.new ≡ room_of self.old) }
+        ensures counts { self.new.faults ≡ self.old.faults }
+        ensures failing { failing_puts self.new ≡ failing_puts self.old }
     {
         self.most_at_once = n;
     }
@@ -49,6 +53,8 @@ impl MemorySink {
         ensures err { OnErr result (failing_puts self.new ≡ failing_puts self.old) }
         ensures taken { taken_bytes self.new ≡ taken_bytes self.old }
         ensures same { (puts self.new ≡ puts self.old) × (room_of self.new ≡ room_of self.old) }
+        ensures counts { self.new.faults ≡ self.old.faults }
+        ensures most { most_at_once self.new ≡ most_at_once self.old }
     {
         self.failing_puts.push(k)
     }

@@ -1,4 +1,4 @@
-ghost use Rattle.std.specs.Prelude.{◌≡◌, ◌≢◌, ◌<◌, ℕ, List, Some, None, OnOk, OnErr};
+ghost use Rattle.std.specs.Prelude.{◌≡◌, ◌≢◌, ◌<◌, ◌-◌, ◌^◌, [], ℕ, List, Some, None, OnOk, OnErr};
 
 use crate::entry::{Entry, Place, copy_from, find};
 use crate::{Failed, Files};
@@ -18,11 +18,14 @@ pub struct SteadyFiles {
 }
 
 impl SteadyFiles {
-    ghost use Rattle.semgus_io.specs.Steady.{held, most_at_once};
+    ghost use Rattle.semgus_io.specs.Steady.{SameCounts, held, left, most_at_once};
 
     /// Holds no file. A take gives as many bytes as there are and its buffer has room for.
     pub fn new(alloc: Global) -> SteadyFiles
-        ensures { (name : List ℕ) → held result name ≡ Some None }
+        ensures held { (name : List ℕ) → held result name ≡ Some None }
+        ensures counts { (result.open_faults ≡ 0) × (result.taken ≡ 0) }
+        ensures left { left result ≡ Some [] }
+        ensures most { most_at_once result ≡ 2 ^ 64 - 1 }
     {
         SteadyFiles {
             entries: Vec::new(alloc),
@@ -39,6 +42,10 @@ impl SteadyFiles {
         ensures this { OnOk result (held self.new name.now ≡ Some (Some bytes.now)) }
         ensures others { (other : List ℕ) → other ≢ name.now → held self.new other ≡ held self.old other }
         ensures err { OnErr result ((other : List ℕ) → held self.new other ≡ held self.old other) }
+        ensures ended { OnOk result (left self.new ≡ Some []) }
+        ensures goes_on { OnErr result (left self.new ≡ left self.old) }
+        ensures counts { SameCounts self.old self.new }
+        ensures most { most_at_once self.new ≡ most_at_once self.old }
     {
         let mut entry = Entry::new(self.alloc);
         entry.name.append(name.as_bytes())?;
@@ -53,6 +60,8 @@ impl SteadyFiles {
         requires { 0 < n }
         ensures most { most_at_once self.new ≡ n }
         ensures held { (name : List ℕ) → held self.new name ≡ held self.old name }
+        ensures left { left self.new ≡ left self.old }
+        ensures counts { SameCounts self.old self.new }
     {
         self.most_at_once = n;
     }

@@ -20,6 +20,7 @@ impl<'a> SteadySink<'a> {
     pub fn new(room: &'a mut [u8]) -> SteadySink<'a>
         ensures written { written_of result ≡ [] }
         ensures room { result.room.now ≡ room.entry.now }
+        ensures counts { result.faults ≡ 0 }
     {
         SteadySink {
             room,

@@ -54,7 +54,7 @@ impl StatedParts {
     }
 
     /// Takes the next form: Ok exactly where it is a command that isn't refused after the earlier ones, which is added.
-    /// After an error the parts can only be dropped.
+    /// Else `Fault` with the refusal that is due, or `Memory`; after an error the parts can only be dropped.
     pub fn take(&mut self, alloc: Global, form: &Sexpr) -> Result<(), ElabError>
         requires sound { IsSoundState self.old }
         requires small { IsSmall form.now }
