@@ -15,7 +15,7 @@ ghost use Rattle.rule_core.specs.Rulebooks.{IsSmall, HasSmallParts, IsRuleOf};
 use crate::rule::{Atom, Call, Rule, Var, Who};
 use expr_core::Expr;
 use items::Items;
-use sig_core::{Bytes, ConId, Kind, Param, RelId, Signature, Sort, TypeId, params_of};
+use sig_core::{Bytes, ConId, Kind, Param, RelId, Signature, Sort, TypeId, count_plain, params_of};
 use std::alloc::{AllocError, Global};
 use thiserror::Error;
 
@@ -337,7 +337,7 @@ fn end_fault(params: &[Param], more: &[Var], known: &[u8], atoms: u32) -> Option
             slot,
         });
     }
-    let slot = unknown_existential(count_plain(params), more, known)?;
+    let slot = unknown_existential(count_plain(params) as u8, more, known)?;
     Some(FlowFault {
         reason: 3,
         atom: atoms,
@@ -363,20 +363,6 @@ fn unknown_output(params: &[Param], known: &[u8]) -> Option<u8>
         }
     }
     None
-}
-
-fn count_plain(params: &[Param]) -> u8
-    requires { length (plain_sorts (map (λ p. p.kind) params.now)) ≤ 64 }
-    ensures { result ≡ length (plain_sorts (map (λ p. p.kind) params.now)) }
-{
-    let mut count = 0;
-    for param in params {
-        match param.kind {
-            Kind::Term(_) => {}
-            Kind::Input(_) | Kind::Output(_) => count += 1,
-        }
-    }
-    count
 }
 
 fn unknown_existential(first: u8, more: &[Var], known: &[u8]) -> Option<u8>
