@@ -1,5 +1,5 @@
 -- The candidates that are kept are the leaders.
-use Rattle.std.proofs.Common.{◌≡◌, ◌↔◌, ℕ, ◌+◌, ◌<◌, ◌≤◌, Bool, true, false, List, length, map, get_or, All, Contains, ◌⊎◌, inl, inr, sym, refl, ap, ap₂, subst, ◌∙◌, arith}
+use Rattle.std.proofs.Common.{◌≡◌, ℕ, ◌+◌, ◌<◌, ◌≤◌, Bool, List, map, get_or, All, Contains, inl, inr, sym, ap, subst, ◌∙◌, arith}
 use Rattle.std.specs.BTreeSet.{BTreeSet, contains}
 use Rattle.std.specs.declared.cmp.Ordering.{Ordering}
 use Rattle.std.specs.declared.cmp.Ordering.TheVariants.{Less, Equal}
@@ -16,7 +16,6 @@ use Rattle.term_core.proofs.Compare.{itself_equal}
 use Rattle.term_core.proofs.Parts.{smaller_first}
 use Rattle.grammar_core.specs.declared.ids.NtId.{NtId}
 use Rattle.grammar_core.specs.declared.production.Nonterminal.{Nonterminal}
-use Rattle.grammar_core.specs.Grammars.{Lang}
 use Rattle.size_core.specs.Lists.{IsListOf}
 use Rattle.size_core.proofs.Growing.{mapped}
 use Rattle.size_core.proofs.Terms.{ascending_ids, ascending_terms}

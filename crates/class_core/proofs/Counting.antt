@@ -1,5 +1,5 @@
 -- The number of looks.
-use Rattle.std.proofs.Common.{◌≡◌, ◌+◌, ◌-◌, ◌<◌, ◌≤◌, inl, inr, ℕ, zero, suc, Bool, List, [], ◌∷◌, ◌++◌, length, get_or, sum, refl, sym, ap, ap₂, ◌∙◌, subst, arith}
+use Rattle.std.proofs.Common.{◌≡◌, ◌+◌, ◌-◌, ◌<◌, inl, inr, ℕ, suc, Bool, List, [], ◌∷◌, ◌++◌, length, get_or, sum, refl, sym, ap, ap₂, ◌∙◌, subst, arith}
 use Rattle.std.specs.List.{sum_by}
 use Rattle.std.specs.declared.cmp.Ordering.TheVariants.{Less}
 use Rattle.std.proofs.lemmas.Bool.{cases_lt}
@@ -16,7 +16,7 @@ use Rattle.lens_core.specs.Lenses.{risen}
 use Rattle.lens_core.proofs.Rising.{one_rising}
 use Rattle.lens_core.proofs.Staying.{risen_more}
 use Rattle.class_core.specs.Leaders.{AreCandidates}
-use Rattle.class_core.specs.Looks.{AreCandidateLists, IsCandidateCount, IsLooks, LooksAtEach, LooksRise, NoLooks, OneLooks}
+use Rattle.class_core.specs.Looks.{AreCandidateLists, IsCandidateCount, LooksRise, NoLooks, OneLooks}
 use Rattle.class_core.proofs.Leading.{never_before_itself}
 
 -- numbers that can't differ are equal

@@ -1,5 +1,5 @@
 -- The classes, one size more.
-use Rattle.std.proofs.Common.{◌≡◌, ◌↔◌, ℕ, ◌+◌, ◌<◌, ◌≤◌, Bool, true, false, List, [], ◌∷◌, ◌++◌, length, take, drop, get_or, All, ◌⊎◌, inl, inr, sym, refl, ap, ap₂, subst, ◌∙◌, arith}
+use Rattle.std.proofs.Common.{◌≡◌, ℕ, ◌+◌, ◌<◌, true, false, List, ◌++◌, length, take, drop, get_or, All, ◌⊎◌, inl, inr, sym, ap, subst, ◌∙◌, arith}
 use Rattle.std.specs.BTreeSet.{BTreeSet, IsEmpty, contains}
 use Rattle.std.specs.BTreeMap.{is_at}
 use Rattle.std.specs.List.{list_any}
@@ -9,7 +9,6 @@ use Rattle.std.proofs.lemmas.List.{append-nil, drop_all, take_all}
 use Rattle.term_core.specs.declared.ids.TermId.{TermId}
 use Rattle.term_core.specs.declared.tree.Tree.{Tree}
 use Rattle.term_core.specs.Banks.{Keeps}
-use Rattle.term_core.specs.Terms.{size}
 use Rattle.grammar_core.specs.declared.ids.NtId.{NtId}
 use Rattle.grammar_core.specs.declared.production.Nonterminal.{Nonterminal}
 use Rattle.size_core.proofs.Made.{one_at_least}

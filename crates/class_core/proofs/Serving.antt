@@ -1,5 +1,5 @@
 -- Sources of children, and the candidates over them.
-use Rattle.std.proofs.Common.{◌≡◌, ◌↔◌, ℕ, zero, suc, ◌+◌, ◌-◌, ◌<◌, ◌≤◌, Bool, true, false, cond, MatchBool, List, [], ◌∷◌, ◌++◌, length, map, sum, take, get_or, All, Contains, ◌⊎◌, inl, inr, sym, refl, ap, ap₂, subst, ◌∙◌, arith}
+use Rattle.std.proofs.Common.{◌≡◌, ◌↔◌, ℕ, zero, suc, ◌+◌, ◌-◌, ◌<◌, ◌≤◌, Bool, true, false, MatchBool, List, [], ◌∷◌, ◌++◌, length, map, sum, take, get_or, All, Contains, ◌⊎◌, inl, inr, sym, refl, ap, ap₂, subst, ◌∙◌, arith}
 use Rattle.std.specs.List.{AllZip}
 use Rattle.std.proofs.lemmas.Bool.{cases_lt}
 use Rattle.std.proofs.lemmas.List.{take_more}
@@ -11,9 +11,8 @@ use Rattle.sig_core.specs.declared.ids.TypeId.{TypeId}
 use Rattle.term_core.specs.declared.ids.TermId.{TermId}
 use Rattle.term_core.specs.declared.tree.Tree.{Tree}
 use Rattle.term_core.specs.Banks.{IsLive, Keeps, tree_of}
-use Rattle.term_core.specs.Terms.{node, size, term_cmp}
+use Rattle.term_core.specs.Terms.{size, term_cmp}
 use Rattle.term_core.proofs.Order.{size-node}
-use Rattle.term_core.proofs.Parts.{size_of}
 use Rattle.grammar_core.specs.declared.ids.NtId.{NtId}
 use Rattle.grammar_core.specs.declared.production.Nonterminal.{Nonterminal}
 use Rattle.grammar_core.specs.declared.production.Production.{Production}
@@ -27,7 +26,7 @@ use Rattle.size_core.proofs.Growing.{live_kept, mapped, none_in, terms_kept, unm
 use Rattle.size_core.proofs.Made.{list_past, lists_stay, one_at_least}
 use Rattle.class_core.specs.Leaders.{AreChosen, IsCandidate, IsLeader}
 use Rattle.class_core.specs.Sources.{AreCandidateIds, AreSourcesAt, HasPlaces, IsChosenBy, IsChosenByOne, IsSourceAt, ListsServe}
-use Rattle.class_core.specs.Standing.{AreLeadersOf, HasOtherPlace, LeadersStand}
+use Rattle.class_core.specs.Standing.{AreLeadersOf, LeadersStand}
 
 -- a source with one place more
 pub sources_last : (leaders lists : List (List (List TermId))) (plain : ℕ → Bool) (i j : ℕ) (args : List NtId) (sources : List Source) (n : NtId) (s : Source) → j ≡ i + length args

@@ -1,8 +1,8 @@
 -- The leaders of a nonterminal are those of its candidates that no leader before them equals in mark.
-use Rattle.std.proofs.Common.{◌≡◌, ◌↔◌, ℕ, zero, suc, ◌+◌, ◌<◌, ◌≤◌, Bool, true, false, MatchBool, List, [], ◌∷◌, ◌++◌, length, map, All, Contains, ◌⊎◌, inl, inr, sym, refl, ap, ap₂, subst, ◌∙◌, arith}
+use Rattle.std.proofs.Common.{◌≡◌, ℕ, suc, ◌+◌, Bool, true, false, MatchBool, List, [], ◌∷◌, ◌++◌, length, All, Contains, sym, refl, ap, subst, ◌∙◌, arith}
 use Rattle.std.specs.List.{AllZip}
 use Rattle.std.specs.declared.cmp.Ordering.TheVariants.{Less}
-use Rattle.std.proofs.lemmas.List.{append-nil, length_push}
+use Rattle.std.proofs.lemmas.List.{length_push}
 use Rattle.std.proofs.lemmas.List.Elements.{All-cons, All-nil}
 use Rattle.sig_core.specs.Signatures.{Declarations}
 use Rattle.sig_core.specs.declared.ids.ConId.{ConId}
@@ -14,7 +14,6 @@ use Rattle.grammar_core.specs.declared.ids.NtId.{NtId}
 use Rattle.grammar_core.specs.declared.production.Nonterminal.{Nonterminal}
 use Rattle.grammar_core.specs.declared.production.Production.{Production}
 use Rattle.grammar_core.specs.Grammars.{Lang, productions_of}
-use Rattle.grammar_core.specs.Languages.{IsProduced}
 use Rattle.grammar_core.proofs.Language.{lang_by, produced}
 use Rattle.class_core.specs.Leaders.{AreChosen, IsCandidate, IsLeader, LeadersAmongCandidates, NoLeaderBefore, NoneWithoutLeader}
 use Rattle.class_core.specs.Sources.{KeepsLaw}

@@ -1,15 +1,14 @@
 -- What is said through a lens, after it became one of the same meaning.
-use Rattle.std.proofs.Common.{◌≡◌, ◌↔◌, ℕ, suc, ◌<◌, ◌≤◌, Bool, true, false, MatchBool, List, [], ◌∷◌, length, get_or, All, Contains, sym, refl, subst, ◌∙◌}
-use Rattle.std.specs.BTreeSet.{BTreeSet, contains}
+use Rattle.std.proofs.Common.{◌≡◌, ℕ, suc, Bool, true, false, MatchBool, List, [], ◌∷◌, get_or, sym, ◌∙◌}
+use Rattle.std.specs.BTreeSet.{BTreeSet}
 use Rattle.std.specs.declared.cmp.Ordering.{Ordering}
 use Rattle.sig_core.specs.Signatures.{Declarations}
 use Rattle.sig_core.specs.declared.ids.ConId.{ConId}
 use Rattle.term_core.specs.declared.ids.TermId.{TermId}
 use Rattle.term_core.specs.declared.tree.Tree.{Tree}
-use Rattle.term_core.specs.Terms.{size}
 use Rattle.grammar_core.specs.declared.ids.NtId.{NtId}
 use Rattle.grammar_core.specs.declared.production.Nonterminal.{Nonterminal}
-use Rattle.grammar_core.specs.Grammars.{Lang, Reaches, start}
+use Rattle.grammar_core.specs.Grammars.{Lang}
 use Rattle.lens_core.specs.Lenses.{Stays}
 use Rattle.size_core.specs.Lists.{IsListOf, list_at}
 use Rattle.class_core.specs.Leaders.{AreCandidates, AreChosen, IsCandidate, IsLeader}

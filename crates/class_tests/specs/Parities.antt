@@ -1,11 +1,11 @@
 -- Terms whose sizes are both even or both odd, and the law of the lens that sees them as one.
-use Rattle.std.proofs.Common.{◌≡◌, ◌↔◌, ℕ, suc, ◌+◌, ◌%◌, true, List, [], ◌∷◌, map, sum, refl, sym, ap, ◌∙◌, arith}
-use Rattle.std.specs.Ordering.{nat_cmp, MatchOrdering}
-use Rattle.std.specs.declared.cmp.Ordering.TheVariants.{Less, Equal, Greater}
+use Rattle.std.proofs.Common.{◌≡◌, ◌↔◌, ℕ, suc, ◌%◌, true, List, [], ◌∷◌, map, sum, refl, sym, ◌∙◌, arith}
+use Rattle.std.specs.Ordering.{nat_cmp}
+use Rattle.std.specs.declared.cmp.Ordering.TheVariants.{Equal}
 use Rattle.std.proofs.lemmas.List.Sums.{sum_by-cons}
 use Rattle.sig_core.specs.Signatures.{Declarations}
 use Rattle.term_core.specs.declared.tree.Tree.{Tree}
-use Rattle.term_core.specs.Terms.{node, size}
+use Rattle.term_core.specs.Terms.{size}
 use Rattle.term_core.proofs.Order.{size-node}
 use Rattle.lens_core.specs.Lenses.{AreMatched, IsCongruent, IsSameness}
 

@@ -1,11 +1,10 @@
 -- An operator and its name.
-use Rattle.std.proofs.Common.{◌≡◌, ℕ, Bool, true, false, if◌then◌else◌, List, Option, Some, None, refl, sym, ap, ◌∙◌}
-use Rattle.std.specs.Prelude.{codes}
+use Rattle.std.proofs.Common.{◌≡◌, ℕ, Bool, true, false, if◌then◌else◌, List, Option, Some, None, refl, ap, ◌∙◌}
 use Rattle.std.specs.Cmp.Lexicographic.{bytes_decides}
 use Rattle.sig_core.specs.Names.{same_name}
 use Rattle.expr_core.specs.declared.expr.Op.{Op}
 use Rattle.expr_core.specs.declared.expr.Op.TheVariants as op
-use Rattle.expr_core.specs.Names.{FoundByName, NameOfFound, operator_name, operator_named}
+use Rattle.expr_core.specs.Names.{FoundByName, operator_name, operator_named}
 
 pub found_by_name : FoundByName
 found_by_name op.Not = refl

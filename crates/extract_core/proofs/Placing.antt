@@ -12,7 +12,7 @@ use Rattle.sig_core.specs.contracts.value.ValuePartialEq.TheImpl.{ghosts as valu
 use Rattle.sig_core.specs.Signatures.{Declarations}
 use Rattle.term_core.specs.declared.ids.TermId.{TermId}
 use Rattle.term_core.specs.declared.tree.Tree.{Tree}
-use Rattle.term_core.specs.Banks.{EachOnce, IsLive, tree_of}
+use Rattle.term_core.specs.Banks.{EachOnce, IsLive}
 use Rattle.rule_core.specs.Instances.{param_values}
 use Rattle.rule_core.proofs.Determined.{and_both, mapped_some}
 use Rattle.deriv_core.specs.declared.parts.Fact.{Fact}

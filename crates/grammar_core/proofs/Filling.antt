@@ -1,5 +1,5 @@
 -- The whole grammar, constructor by constructor.
-use Rattle.std.proofs.Common.{◌≡◌, ◌≢◌, ℕ, zero, suc, ◌+◌, ◌<◌, ◌≤◌, Bool, true, false, not, cond, nat_eq, List, [], ◌∷◌, ◌++◌, length, map, get_or, set, replicate, slice_get, slice_index_or, take, Some, All, inl, inr, sym, refl, ap, ap₂, subst, ◌∙◌, arith}
+use Rattle.std.proofs.Common.{◌≡◌, ◌≢◌, ℕ, zero, suc, ◌+◌, ◌<◌, ◌≤◌, Bool, true, false, not, cond, nat_eq, List, [], ◌∷◌, ◌++◌, length, map, get_or, set, slice_get, slice_index_or, take, Some, All, inl, inr, sym, refl, ap, ap₂, subst, ◌∙◌, arith}
 use Rattle.std.proofs.lemmas.Bool.{cases_eq, cases_lt}
 use Rattle.std.proofs.lemmas.Bool.Decides.{nat_tests}
 use Rattle.std.proofs.lemmas.List.{append-nil, get_or-map, map_push, get_or-set_same, get_or-set_other, length-map, length-set, length-take-le, same_lists, take_all, take_more}
@@ -14,7 +14,7 @@ use Rattle.sig_core.specs.declared.ids.TypeId.{TypeId}
 use Rattle.sig_core.specs.declared.signature.Constructor.{Constructor}
 use Rattle.grammar_core.specs.declared.ids.NtId.{NtId}
 use Rattle.grammar_core.specs.declared.production.Production.{Production}
-use Rattle.grammar_core.specs.Grammars.{Nonterminal, IsKnown, Reaches, itself, blank, names_of, nonterminal_at, production_count, productions_of, start}
+use Rattle.grammar_core.specs.Grammars.{Nonterminal, IsKnown, blank, names_of, nonterminal_at, production_count, productions_of, start}
 use Rattle.grammar_core.specs.Kept.{IsKept}
 use Rattle.grammar_core.specs.declared.marks.Marks.{Marks}
 use Rattle.grammar_core.specs.Limits.{KeepsLimits}

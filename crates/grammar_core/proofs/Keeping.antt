@@ -1,7 +1,7 @@
 -- What a grammar keeps, after an item is added.
-use Rattle.std.proofs.Common.{◌≡◌, ℕ, ◌+◌, ◌<◌, ◌≤◌, Bool, true, false, nat_eq, eq-eqb, List, [], ◌∷◌, ◌++◌, length, get_or, set, All, Contains, None, Option, MatchOption, Some, ◌⊎◌, inl, inr, sym, refl, ap, ap₂, subst, ◌∙◌, arith}
+use Rattle.std.proofs.Common.{◌≡◌, ℕ, ◌+◌, ◌<◌, ◌≤◌, Bool, true, false, nat_eq, eq-eqb, List, [], ◌∷◌, ◌++◌, length, get_or, set, All, Contains, None, ◌⊎◌, inl, inr, sym, refl, ap, ap₂, subst, ◌∙◌, arith}
 use Rattle.std.proofs.lemmas.Bool.{cases_eq, cases_lt, eqb-true}
-use Rattle.std.proofs.lemmas.List.{get_or_append_left, get_or_push, get_or_past, get_or_read, get_or-set_same, get_or-set_other, get_or-map, length_push, length-set, map_push, map-set, set-get_or, same_from_push}
+use Rattle.std.proofs.lemmas.List.{get_or_append_left, get_or_push, get_or_past, get_or_read, get_or-set_same, get_or-set_other, get_or-map, length_push, length-set, map_push, map-set, set-get_or}
 use Rattle.std.proofs.lemmas.List.Elements.{All-nil, All-push, All-set, All-weaker, Contains-append_left, Contains-get_or, Contains-push, Contains-push_cases}
 use Rattle.std.proofs.lemmas.List.Sums.{sum_by-set, sum_by_push}
 use Rattle.sig_core.specs.Names.{AreDistinct, place_of}

@@ -1,14 +1,13 @@
 -- Marks that follow the productions.
-use Rattle.std.proofs.Common.{◌≡◌, ℕ, zero, suc, ◌+◌, ◌<◌, ◌≤◌, ◌^◌, Bool, true, false, not, cond, List, [], ◌∷◌, ◌++◌, length, replicate, get_or, set, All, Contains, count_by, ◌⊎◌, inl, inr, sym, refl, ap, subst, ◌∙◌, arith}
+use Rattle.std.proofs.Common.{◌≡◌, ℕ, zero, suc, ◌+◌, ◌<◌, ◌≤◌, ◌^◌, Bool, true, false, not, cond, List, [], ◌∷◌, ◌++◌, length, replicate, get_or, set, All, Contains, count_by, inl, inr, sym, refl, ap, subst, ◌∙◌, arith}
 use Rattle.std.proofs.lemmas.Bool.{cases_eq, cases_lt}
-use Rattle.std.proofs.lemmas.List.{get_or_append_left, get_or_push, get_or-set_same, get_or-set_other, get_or_past, length-replicate, length-set, length_push}
-use Rattle.std.proofs.lemmas.List.Elements.{All-contains, Contains-get_or}
+use Rattle.std.proofs.lemmas.List.{get_or_append_left, get_or-set_same, get_or-set_other, get_or_past, length-replicate, length-set, length_push}
+use Rattle.std.proofs.lemmas.List.Elements.{All-contains}
 use Rattle.std.proofs.lemmas.List.Sums.{count_by-le-length, sum_by-set, sum_by_push, sum_by-cons}
 use Rattle.grammar_core.specs.declared.ids.NtId.{NtId}
 use Rattle.grammar_core.specs.declared.marks.Marks.{Marks}
-use Rattle.grammar_core.specs.declared.production.Production.{Production}
-use Rattle.grammar_core.specs.Grammars.{Nonterminal, IsKnown, Leads, Reaches, itself, onward, productions_of, start}
-use Rattle.grammar_core.specs.Marks.{AreMarks, Grows, HasChild, IsClosed, IsClosedBefore, IsClosedBut, IsMarked, KeepsMarks, MarksReached, Waits, none, queued_at, start_and, with_place}
+use Rattle.grammar_core.specs.Grammars.{Nonterminal, Leads, Reaches, itself, onward, productions_of, start}
+use Rattle.grammar_core.specs.Marks.{AreMarks, Grows, HasChild, IsClosed, IsClosedBefore, IsClosedBut, IsMarked, MarksReached, Waits, none, queued_at, start_and, with_place}
 
 pub not_both : {b : Bool} → b ≡ false → b ≡ true → ⊥
 not_both p q = cc

@@ -12,7 +12,7 @@ use Rattle.sig_core.specs.declared.value.Value.TheVariants as value
 use Rattle.sig_core.specs.Names.{place_of}
 use Rattle.sig_core.specs.Signatures.{Declarations}
 use Rattle.sexpr_core.specs.declared.form.Atom as sexpr
-use Rattle.expr_core.specs.declared.expr.Expr.{Expr, out-Expr}
+use Rattle.expr_core.specs.declared.expr.Expr.{Expr}
 use Rattle.expr_core.specs.declared.expr.Expr as expr
 use Rattle.expr_core.specs.declared.expr.Expr.{the_lemmas as expr_lemmas}
 use Rattle.expr_core.specs.declared.expr.Expr.TheFolds.{fold-Expr}

@@ -24,7 +24,7 @@ use Rattle.syntax_core.specs.declared.syntax.Exp as exp
 use Rattle.syntax_core.specs.Literals.{negative, positive}
 use Rattle.syntax_core.specs.Roles.{operator_named}
 use Rattle.sort_core.specs.declared.open.OpenExp.{OpenExp}
-use Rattle.sort_core.specs.declared.open.OpenNode.{OpenNode, out-OpenNode}
+use Rattle.sort_core.specs.declared.open.OpenNode.{out-OpenNode}
 use Rattle.sort_core.specs.declared.open.OpenNode as node
 use Rattle.sort_core.specs.declared.variables.Variables.{Variables}
 use Rattle.name_core.specs.Names.{has}

@@ -2,13 +2,12 @@
 use Rattle.std.proofs.Common.{◌≡◌, ℕ, false, List, map, rules}
 use Rattle.sig_core.specs.declared.ids.RelId.{RelId}
 use Rattle.sig_core.specs.declared.value.Value.TheVariants as value
-use Rattle.expr_core.specs.declared.expr.Expr.{Expr}
 use Rattle.expr_core.specs.declared.expr.Expr as expr
 use Rattle.expr_core.specs.declared.expr.Op.{Op}
 use Rattle.rule_core.specs.declared.rule.Who.{Who}
 use Rattle.syntax_core.specs.declared.literal.Literal.{Literal}
 use Rattle.sort_core.specs.declared.open.OpenExp.{OpenExp}
-use Rattle.sort_core.specs.declared.open.OpenNode.{OpenNode, the_lemmas}
+use Rattle.sort_core.specs.declared.open.OpenNode.{the_lemmas}
 use Rattle.sort_core.specs.declared.open.OpenNode as node
 use Rattle.making_core.specs.Rules.{expr_of, expr_of_node, value_of_literal}
 

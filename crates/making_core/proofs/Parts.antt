@@ -1,9 +1,9 @@
 -- Rules that were added in part.
 use Rattle.std.proofs.Common.{◌≡◌, ◌<◌, ◌≤◌, ◌+◌, ℕ, List, [], ◌∷◌, ◌++◌, length, drop, get_or, refl, sym, ap, ap₂, ◌∙◌, append_assoc, length-append, arith}
 use Rattle.std.specs.List.{flat_map}
+use Rattle.sig_core.specs.Texts.{IsPart}
 use Rattle.rule_core.specs.declared.rule.Rule.{Rule}
 use Rattle.sort_core.proofs.Dues.{here_then}
-use Rattle.making_core.specs.Rules.{IsPart}
 
 -- what grew, and with more grows to all rules, grew by a first part of them
 pub grown_by_part : (old new rest rules : List Rule) → new ++ rest ≡ old ++ rules → length old ≤ length new → IsPart old new rules

@@ -1,5 +1,5 @@
 -- The rules that functions make, and their data flow.
-use Rattle.std.specs.Prelude.{◌≡◌, ℕ, pos, ◌-◌, ◌≤◌, false, not, ◌&&◌, nat_eq, if◌then◌else◌, Option, Some, None, unwrap_or, option_map, option_and_then, List, [], ◌∷◌, ◌++◌, map, length, slice_get, All}
+use Rattle.std.specs.Prelude.{ℕ, pos, ◌-◌, ◌≤◌, false, not, ◌&&◌, nat_eq, if◌then◌else◌, Option, Some, None, unwrap_or, option_map, option_and_then, List, [], ◌∷◌, map, length, slice_get, All}
 use Rattle.std.specs.Option.{option_map_or, option_to_list}
 use Rattle.std.specs.List.{flat_map}
 use Rattle.sig_core.specs.declared.ids.ConId.{ConId}
@@ -142,13 +142,6 @@ rule_of sig relation con kids branch = record {
 -- the rules of a case, in order
 abbrev pub case_rules : Declarations → OpenCase → List Rule
 case_rules sig case = map (rule_of sig case.relation case.con case.kids) case.branches
-
--- `new` is `old` and after it a first part of these rules
-pub record IsPart (old new rules : List Rule) : Type 0 where
-  pub done : List Rule
-  pub rest : List Rule
-  pub grows : new ≡ old ++ done
-  pub splits : done ++ rest ≡ rules
 
 -- each branch of the case makes a rule of the signature's
 abbrev pub HasRules : Declarations → OpenCase → Type 0

@@ -1,9 +1,10 @@
 //! The rules of functions, put into a book of rules up to the first that data flow refuses.
 ghost use Rattle.std.specs.Prelude.{◌≡◌, ◌≤◌, ◌+◌, ◌++◌, None, length, sum_by, All, IfErr, OnOk, OnErr};
 ghost use Rattle.std.specs.List.{flat_map};
+ghost use Rattle.sig_core.specs.Texts.{IsPart};
 ghost use Rattle.sort_core.specs.Errors.{IsDue};
 ghost use Rattle.name_core.specs.Faults.{first};
-ghost use Rattle.making_core.specs.Rules.{HasFewPlain, HasRules, IsPart, case_flow, case_rules};
+ghost use Rattle.making_core.specs.Rules.{HasFewPlain, HasRules, case_flow, case_rules};
 
 use crate::rules::add_case;
 use rule_core::Rulebook;

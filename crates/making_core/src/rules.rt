@@ -2,12 +2,13 @@
 ghost use Rattle.std.specs.Prelude.{◌≡◌, ◌≤◌, ◌<◌, ◌+◌, ◌++◌, [], ◌∷◌, None, option_map, map, length, IfOk, IfErr, OnOk, OnErr};
 ghost use Rattle.std.specs.Option.{option_copied};
 ghost use Rattle.sig_core.specs.Signatures.{kinds_of, plain_sorts};
+ghost use Rattle.sig_core.specs.Texts.{IsPart};
 ghost use Rattle.rule_core.specs.Flow.{flow_fault};
 ghost use Rattle.rule_core.specs.Rulebooks.{IsRuleOf};
 ghost use Rattle.sort_core.specs.Errors.{IsDue};
 ghost use Rattle.name_core.specs.Faults.{first};
 ghost use Rattle.sort_core.specs.Relations.{sort_named};
-ghost use Rattle.making_core.specs.Rules.{HasRules, IsPart, case_flow, case_rules, flow_refusal, place_of_open, place_of_pair, rule_of, var_of};
+ghost use Rattle.making_core.specs.Rules.{HasRules, case_flow, case_rules, flow_refusal, place_of_open, place_of_pair, rule_of, var_of};
 
 use crate::making::atoms_from;
 use items::at;

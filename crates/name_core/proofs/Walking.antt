@@ -1,7 +1,7 @@
 -- The walk of each kind of body.
 use Rattle.std.proofs.Common.{◌≡◌, ◌+◌, ℕ, ◌++◌, map, length, ap, ◌∙◌, rules}
 use Rattle.std.specs.Option.{option_or}
-use Rattle.syntax_core.specs.declared.syntax.Body.{Body, the_lemmas}
+use Rattle.syntax_core.specs.declared.syntax.Body.{the_lemmas}
 use Rattle.syntax_core.specs.declared.syntax.Body as body
 use Rattle.syntax_core.specs.declared.syntax.Leaf.{Leaf}
 use Rattle.syntax_core.specs.declared.syntax.Scope.{Scope}

@@ -1,5 +1,5 @@
 -- Problems whose parts fit together, as those of a file that is accepted do.
-use Rattle.std.specs.Prelude.{◌≡◌, ◌<◌, ◌≤◌, ℕ, ◌+◌, ℤ, pos, negsuc, Bool, true, false, not, ◌&&◌, ◌||◌, Option, Some, None, option_map, List, [], ◌∷◌, ◌++◌, map, length, slice_get, codes, All}
+use Rattle.std.specs.Prelude.{◌≡◌, ◌<◌, ◌≤◌, ℕ, ◌+◌, pos, Bool, true, false, not, ◌&&◌, ◌||◌, Some, None, option_map, List, [], ◌∷◌, ◌++◌, map, length, slice_get, codes, All}
 use Rattle.std.specs.List.{list_all}
 use Rattle.sig_core.specs.declared.ids.TypeId.{TypeId}
 use Rattle.sig_core.specs.declared.value.Value.{Value}

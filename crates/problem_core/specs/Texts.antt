@@ -36,7 +36,6 @@ use Rattle.rule_core.specs.declared.rule.Who.{Who}
 use Rattle.rule_core.specs.declared.rule.Who.TheVariants.{Own, Child}
 use Rattle.rule_core.specs.Instances.{args_of}
 use Rattle.rule_core.specs.Rulebooks.{rules_of}
-use Rattle.grammar_core.specs.declared.ids.NtId.{NtId}
 use Rattle.grammar_core.specs.declared.production.Nonterminal.{Nonterminal}
 use Rattle.grammar_core.specs.declared.production.Production.{Production}
 use Rattle.grammar_core.specs.Grammars.{nonterminal_at}

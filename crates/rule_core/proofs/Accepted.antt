@@ -1,9 +1,8 @@
 -- A rule without a flow fault, atom by atom.
-use Rattle.std.proofs.Common.{◌≡◌, ℕ, zero, suc, Bool, true, false, if◌then◌else◌, Option, Some, None, List, [], ◌∷◌, length, slice_get, option_and_then, is_some, refl, sym, ap, ap₂, subst, ◌∙◌}
+use Rattle.std.proofs.Common.{◌≡◌, ℕ, zero, suc, Bool, true, false, if◌then◌else◌, Option, Some, None, List, [], ◌∷◌, length, slice_get, option_and_then, is_some, refl, ap, subst, ◌∙◌}
 use Rattle.std.specs.Option.{option_map_or}
 use Rattle.std.proofs.lemmas.Option.{same_Some}
 use Rattle.sig_core.specs.Signatures.{Declarations, kinds_of, input_slots, output_slots}
-use Rattle.rule_core.specs.declared.flow.FlowFault.{FlowFault}
 use Rattle.rule_core.specs.declared.rule.Atom.{Atom}
 use Rattle.rule_core.specs.declared.rule.Rule.{Rule}
 use Rattle.rule_core.specs.Flow.{existential_slots, fault_at, fault_from, fits, known_after, unknown_in}

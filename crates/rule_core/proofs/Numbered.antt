@@ -1,5 +1,5 @@
 -- Tables with the numbers of rules.
-use Rattle.std.proofs.Common.{ℕ, ◌++◌, nat_eq, if◌then◌else◌, List, [], ◌∷◌, length, sym, ap, ◌∙◌}
+use Rattle.std.proofs.Common.{◌++◌, nat_eq, if◌then◌else◌, List, [], ◌∷◌, length, sym, ap, ◌∙◌}
 use Rattle.tables.specs.Tables.{Gains, Keeps}
 use Rattle.tables.proofs.Places.{places-push}
 use Rattle.rule_core.specs.declared.numbers.Numbers.{Numbers}

@@ -1,6 +1,6 @@
 -- The canonical spelling of a form that can be spelled is a spelling of the same form, places aside.
 use Rattle.std.proofs.Common.{◌≡◌, ℕ, zero, suc, ◌+◌, Bool, true, false, not, cond, List, [], ◌∷◌, ◌++◌, refl, sym, ap, ap₂, ◌∙◌, subst, length, map, append_assoc, rules, arith}
-use Rattle.std.specs.Prelude.{◌&&◌, ◌==◌, All, codes}
+use Rattle.std.specs.Prelude.{◌==◌, All, codes}
 use Rattle.std.specs.List.{list_all}
 use Rattle.std.proofs.Math.ListN.{length-append}
 use Rattle.std.proofs.lemmas.Bool.{true≢false, and_parts}
@@ -10,7 +10,7 @@ use Rattle.sexpr_core.specs.declared.form.Atom.{Atom}
 use Rattle.sexpr_core.specs.declared.form.Nest.{Nest}
 use Rattle.sexpr_core.specs.declared.form.Sexpr as sexpr
 use Rattle.sexpr_core.specs.declared.form.Sexpr.{Sexpr, the_lemmas}
-use Rattle.sexpr_core.specs.Lexicon.{is_digit, is_symbol_byte, is_allowed, is_quoted_byte, doubled, EndsBefore, IsNumeral, IsSimpleSymbol}
+use Rattle.sexpr_core.specs.Lexicon.{is_digit, is_symbol_byte, is_quoted_byte, doubled, EndsBefore, IsSimpleSymbol}
 use Rattle.sexpr_core.specs.Respelling.{placeless, AreSpellable, SpellsAgain}
 use Rattle.sexpr_core.specs.Respelling as able
 use Rattle.sexpr_core.specs.Spelling.{atom, IsToken, Spelled, Spell, nothing, blank, comment, token, list, numeral, simple_symbol, quoted_symbol, string, keyword}

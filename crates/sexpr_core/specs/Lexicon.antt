@@ -1,5 +1,5 @@
 -- The bytes and the tokens of the lexicon of SMT-LIB 2.6, as this project reads it. A byte is its number.
-use Rattle.std.specs.Prelude.{◌≡◌, ◌≢◌, ℕ, List, [], ◌∷◌, Bool, ◌||◌, ◌&&◌, not, nat_le, ◌==◌, if◌then◌else◌, IsTrue, IsFalse, codes}
+use Rattle.std.specs.Prelude.{◌≡◌, ◌≢◌, ℕ, List, [], ◌∷◌, Bool, ◌||◌, ◌&&◌, not, ◌==◌, if◌then◌else◌, IsTrue, IsFalse}
 use Rattle.std.specs.List.{list_all, list_any}
 pub use Rattle.sig_core.specs.Names.{is_between, is_digit, is_letter, is_symbol_byte}
 

@@ -10,9 +10,9 @@ literal_text (value.Int (negsuc n)) = codes "(- " ++ decimal (suc n) ++ codes ")
 literal_text (value.Bool true) = codes "true"
 literal_text (value.Bool false) = codes "false"
 
--- `new` is `old` and after it a first part of `text`
-pub record IsPart (old new text : List ℕ) : Type 0 where
-  pub done : List ℕ
-  pub rest : List ℕ
+-- `new` is `old` and after it a first part of `whole`
+pub record IsPart {A : Type 0} (old new whole : List A) : Type 0 where
+  pub done : List A
+  pub rest : List A
   pub grows : new ≡ old ++ done
-  pub splits : done ++ rest ≡ text
+  pub splits : done ++ rest ≡ whole

@@ -12,7 +12,7 @@ use Rattle.syntax_core.specs.declared.literal.Literal.{Literal}
 use Rattle.rule_core.specs.declared.rule.Who.{Who}
 use Rattle.syntax_core.specs.Literals.{is_out_of_range, sort_of_literal}
 use Rattle.sort_core.specs.declared.open.OpenExp.{OpenExp}
-use Rattle.sort_core.specs.declared.open.OpenNode.{OpenNode, the_lemmas}
+use Rattle.sort_core.specs.declared.open.OpenNode.{the_lemmas}
 use Rattle.sort_core.specs.declared.open.OpenNode as node
 use Rattle.name_core.specs.Faults.{bad_if, first}
 use Rattle.sort_core.specs.Sorts.{Survey, operand_faults, stated_at, stated_sort, survey, survey_of_node}

@@ -13,7 +13,7 @@ use Rattle.sig_core.specs.Signatures.{Declarations, kinds_of}
 use Rattle.sig_core.specs.Values.{same_sort}
 use Rattle.sig_core.specs.WellFormed.{constructor_names, term_types}
 use Rattle.sexpr_core.specs.declared.form.Sexpr.{Sexpr}
-use Rattle.sexpr_core.specs.Access.{symbol_of, item_of, others_of}
+use Rattle.sexpr_core.specs.Access.{item_of, others_of}
 use Rattle.sexpr_core.specs.Access as access
 use Rattle.expr_core.specs.declared.expr.Op.{Op}
 use Rattle.expr_core.specs.declared.expr.Op.TheVariants.{Not, And, Or, Xor, Implies, Equal, Distinct, Ite, Add, Minus, Times, Div, Mod, Abs}

@@ -1,5 +1,5 @@
 -- The numbers of the nodes of a key.
-use Rattle.std.proofs.Common.{◌≡◌, ◌<◌, ℕ, Bool, Option, Some, None, MatchOption, true, nat_eq, if◌then◌else◌, List, [], ◌∷◌, ◌++◌, length, get_or, All, Contains, sym, ap, ap₂, subst, ◌∙◌, arith, eq-eqb}
+use Rattle.std.proofs.Common.{◌≡◌, ℕ, Option, Some, None, MatchOption, true, nat_eq, if◌then◌else◌, List, [], ◌∷◌, ◌++◌, length, get_or, All, Contains, sym, ap, ap₂, subst, ◌∙◌, arith, eq-eqb}
 use Rattle.std.proofs.lemmas.List.{get_or_default, length_push}
 use Rattle.indexmap.specs.IndexMap.{IndexMap}
 use Rattle.sig_core.specs.declared.ids.ConId.{ConId}

@@ -1,8 +1,7 @@
-use Rattle.std.proofs.Common.{◌≡◌, ◌∙◌, List, length, map, All, sym, ap, subst}
+use Rattle.std.proofs.Common.{◌∙◌, length, map, sym, ap, subst}
 use Rattle.std.proofs.lemmas.List.{length-map}
 use Rattle.lens_core.specs.Lenses.{risen}
-use Rattle.term_core.specs.Banks.{IsLive, tree_of}
-use Rattle.class_core.specs.Choices.{AreFirst}
+use Rattle.term_core.specs.Banks.{tree_of}
 use Rattle.class_core.specs.Sources.{AreCandidateIds, KeepsLaw}
 use Rattle.class_core.proofs.Classing.{candidate_terms, candidates_typed, kept_are_leaders, more_known}
 use Rattle.class_core.proofs.levels.leaders_of.Goals as goal

@@ -10,7 +10,7 @@ use Rattle.deriv_core.specs.declared.parts.Step.{Step}
 use Rattle.deriv_core.specs.declared.parts.StepId.{StepId}
 use Rattle.deriv_core.specs.Facts.{tree_fact}
 use Rattle.deriv_core.specs.Steps.{tree_steps}
-use Rattle.extract_core.specs.Additions.{Adds, AddsCalls, HasFact}
+use Rattle.extract_core.specs.Additions.{Adds, AddsCalls}
 use Rattle.extract_core.specs.Lookups.{IsCallFact}
 use Rattle.extract_core.proofs.CallLists.{calls_more, call_there, no_call}
 use Rattle.extract_core.proofs.Adding.{calls_none}

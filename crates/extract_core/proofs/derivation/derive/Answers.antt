@@ -1,5 +1,4 @@
-use Rattle.std.proofs.Common.{map, length, slice_index, subst, refl}
-use Rattle.eval_core.specs.Evaluations.{Evaluation}
+use Rattle.std.proofs.Common.{map, length, slice_index, subst}
 use Rattle.std.proofs.lemmas.List.{length-map}
 use Rattle.problem_core.specs.Derivations.{IsLeastHeight}
 use Rattle.deriv_core.specs.Facts.{tree_fact}

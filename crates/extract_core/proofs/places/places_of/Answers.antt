@@ -1,4 +1,4 @@
-use Rattle.std.proofs.Common.{◌≡◌, ◌+◌, ◌≤◌, Some, take, length, slice_get, sym, ap, subst, arith}
+use Rattle.std.proofs.Common.{◌≡◌, Some, take, length, slice_get, sym, ap, subst, arith}
 use Rattle.std.specs.Map.{lookup}
 use Rattle.std.proofs.lemmas.List.{take_all, length-take-le}
 use Rattle.std.proofs.lemmas.Option.{slice_get_within}

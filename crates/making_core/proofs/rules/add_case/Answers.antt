@@ -1,5 +1,6 @@
 use Rattle.std.proofs.Common.{◌≤◌, length, sym, subst, arith}
-use Rattle.making_core.specs.Rules.{IsPart, case_rules}
+use Rattle.sig_core.specs.Texts.{IsPart}
+use Rattle.making_core.specs.Rules.{case_rules}
 use Rattle.making_core.proofs.Parts.{grown_by_part}
 use Rattle.making_core.proofs.rules.add_case.Goals as goal
 

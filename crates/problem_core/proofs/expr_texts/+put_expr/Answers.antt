@@ -1,4 +1,4 @@
-use Rattle.std.proofs.Common.{◌≡◌, ◌+◌, ◌++◌, ◌∷◌, [], ◌∙◌, List, ℕ, OnOk, length, map, take, drop, sym, ap, subst, arith}
+use Rattle.std.proofs.Common.{◌+◌, ◌++◌, ◌∷◌, [], ◌∙◌, sym, ap}
 use Rattle.std.specs.List.{flat_map}
 use Rattle.sig_core.specs.Names.{symbol_text}
 use Rattle.sexpr_core.specs.Texts.{form_text}

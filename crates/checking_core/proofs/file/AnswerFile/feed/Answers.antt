@@ -1,4 +1,4 @@
-use Rattle.checking_core.proofs.Spellings.{fed, read_room}
+use Rattle.checking_core.proofs.Spellings.{read_room}
 use Rattle.checking_core.proofs.file.AnswerFile.feed.Goals as goal
 
 pub read-requires : goal.read-requires

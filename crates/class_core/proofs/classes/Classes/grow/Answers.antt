@@ -1,6 +1,5 @@
-use Rattle.std.proofs.Common.{◌≡◌, ◌+◌, ◌≤◌, ◌∙◌, ◌++◌, ◌∷◌, [], List, length, get_or, inr, sym, ap, subst, arith}
+use Rattle.std.proofs.Common.{◌≡◌, ◌+◌, ◌∙◌, ◌++◌, ◌∷◌, [], length, get_or, inr, sym, ap, subst, arith}
 use Rattle.std.proofs.lemmas.List.{length_push}
-use Rattle.grammar_core.specs.declared.ids.NtId.{NtId}
 use Rattle.size_core.specs.Lists.{StandFor}
 use Rattle.size_core.proofs.Made.{lists_stay}
 use Rattle.class_core.specs.Standing.{AllKnow, AreClasses, KnowsLeaders, LeadersStand, ListsStand}

@@ -1,7 +1,6 @@
 use Rattle.std.proofs.Common.{[], sym, subst}
 use Rattle.grammar_core.specs.Kept.{IsKept}
 use Rattle.grammar_core.specs.Limits.{KeepsLimits}
-use Rattle.grammar_core.specs.Marks.{none}
 use Rattle.grammar_core.proofs.Keeping.{IsKept-none, KeepsLimits-none}
 use Rattle.grammar_core.proofs.grammar.Grammar.new.Goals as goal
 

@@ -1,5 +1,4 @@
 use Rattle.std.proofs.Common.{◌∙◌, sym}
-use Rattle.grammar_core.specs.Marks.{MarksReached}
 use Rattle.grammar_core.proofs.Marking.{closed_after, closed_unmarked, reached_after}
 use Rattle.grammar_core.proofs.marks.Marks.follow.Goals as goal
 

@@ -1,4 +1,4 @@
-use Rattle.std.proofs.Common.{◌≡◌, ◌∙◌, take, All, Contains, sym, subst}
+use Rattle.std.proofs.Common.{◌∙◌, take, All, Contains, sym, subst}
 use Rattle.std.proofs.lemmas.List.{take_all}
 use Rattle.std.proofs.lemmas.List.Elements.{All-more, All-weaker}
 use Rattle.grammar_core.specs.declared.production.Production.{Production}
