@@ -1,6 +1,6 @@
 use Rattle.std.proofs.Common.{length, sym, subst, arith}
 use Rattle.sig_core.specs.WellFormed.{IsRelation}
-use Rattle.example_outcomes.proofs.Fitting.{constant_fits}
+use Rattle.example_relations.proofs.Fits.{constant_fits}
 use Rattle.example_outcomes.proofs.relations.add_constant.Goals as goal
 
 pub add_relation-requires : goal.add_relation-requires

@@ -1,6 +1,6 @@
 use Rattle.std.proofs.Common.{length, sym, subst, arith}
 use Rattle.sig_core.specs.WellFormed.{IsRelation}
-use Rattle.example_outcomes.proofs.Fitting.{unary_fits}
+use Rattle.example_relations.proofs.Fits.{unary_fits}
 use Rattle.example_outcomes.proofs.relations.add_unary.Goals as goal
 
 pub add_relation-requires : goal.add_relation-requires
