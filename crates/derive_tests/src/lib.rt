@@ -2,8 +2,4 @@
 #![tactic(auto)]
 
 #[cfg(test)]
-mod language;
-#[cfg(test)]
-mod rules;
-#[cfg(test)]
 mod steps;

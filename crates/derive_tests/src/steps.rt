@@ -4,12 +4,11 @@ ghost use Rattle.term_core.specs.Banks.{IsLive};
 ghost use Rattle.problem_core.specs.Derivations.{Within};
 ghost use Rattle.deriv_core.specs.Facts.{tree_fact};
 ghost use Rattle.eval_core.specs.Evaluations.{IsAccepted, StandsFor};
-ghost use Rattle.derive_tests.specs.Counting.{counting};
+ghost use Rattle.example_loops.specs.Loops.{loops};
 
-use crate::language::counting;
-use crate::rules::{LOOP, S, book};
 use deriv_core::{BadStep, Fact, StepId, Steps};
 use eval_core::{Evaluator, Outcome};
+use example_loops::{LOOP, S, counting_rules, loops};
 use extract_core::derive;
 use rule_core::{AddError, Rulebook};
 use sig_core::{Signature, Value, Values};
@@ -59,7 +58,7 @@ fn first_fact(
     node: TermId,
     height: u32,
 ) -> Result<Fact, AllocError>
-    requires signature { evaluator.old.signature ≡ counting }
+    requires signature { evaluator.old.signature ≡ loops }
     requires stands { StandsFor evaluator.old bank.now }
     requires live { IsLive bank.now node }
     requires positive { 1 ≤ height }
@@ -104,7 +103,7 @@ fn derived_on(
     node: TermId,
     height: u32,
 ) -> Result<Steps, AllocError>
-    requires signature { evaluator.old.signature ≡ counting }
+    requires signature { evaluator.old.signature ≡ loops }
     requires stands { StandsFor evaluator.old bank.now }
     requires live { IsLive bank.now node }
     requires positive { 1 ≤ height }
@@ -151,7 +150,7 @@ fn derived_in(
     node: TermId,
     height: u32,
 ) -> Result<Derived, AllocError>
-    requires signature { signature.now ≡ counting }
+    requires signature { signature.now ≡ loops }
     requires accepted { All (IsAccepted signature.now) book.now }
     requires live { IsLive bank.now node }
     requires positive { 1 ≤ height }
@@ -169,7 +168,7 @@ fn derived_over(
     book: &Rulebook,
     height: u32,
 ) -> Result<Derived, AllocError>
-    requires signature { signature.now ≡ counting }
+    requires signature { signature.now ≡ loops }
     requires accepted { All (IsAccepted signature.now) book.now }
     requires positive { 1 ≤ height }
     requires low { height ≤ 1000 }
@@ -185,11 +184,11 @@ fn derived_by(
     signature: &Signature,
     height: u32,
 ) -> Result<Derived, AddError>
-    requires signature { signature.now ≡ counting }
+    requires signature { signature.now ≡ loops }
     requires positive { 1 ≤ height }
     requires low { height ≤ 1000 }
 {
-    let book = book(alloc, signature)?;
+    let book = counting_rules(alloc, signature)?;
     Ok(derived_over(rt, alloc, signature, &book, height)?)
 }
 
@@ -198,7 +197,7 @@ fn steps_at_three(rt: &impl Abort, alloc: Global, height: u32) -> Result<Derived
     requires positive { 1 ≤ height }
     requires low { height ≤ 1000 }
 {
-    let Ok(signature) = counting(alloc) else {
+    let Ok(signature) = loops(alloc) else {
         return Err(AddError::Memory);
     };
     derived_by(rt, alloc, &signature, height)

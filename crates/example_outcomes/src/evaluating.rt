@@ -137,8 +137,7 @@ fn found_in(
     given(alloc, &mut evaluator, bank, TermId(last), question)
 }
 
-/// What the relation gives on the last of the nodes.
-pub fn found(
+fn found(
     alloc: Global,
     signature: &Signature,
     book: &Rulebook,
@@ -150,5 +149,21 @@ pub fn found(
     match interned(alloc, signature, nodes) {
         Ok(bank) => Ok(found_in(alloc, signature, book, &bank, question)?),
         Err(_) => Err(AddError::Memory),
+    }
+}
+
+/// What the relation gives on the last of the nodes by rules that were made, unless memory was refused for them.
+pub fn found_by(
+    alloc: Global,
+    signature: &Signature,
+    book: Result<Rulebook, AddError>,
+    nodes: &[Node],
+    question: &Question<'_>,
+) -> Result<Given, AddError>
+    requires { IfOk book (All (IsAccepted signature.now)) }
+{
+    match book {
+        Ok(book) => found(alloc, signature, &book, nodes, question),
+        Err(error) => Err(error),
     }
 }

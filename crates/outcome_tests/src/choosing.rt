@@ -6,7 +6,7 @@ ghost use Rattle.example_atoms.specs.Rules.{IsShort};
 
 use crate::expecting::expect;
 use example_atoms::{call_child, choice, fill, giving, over_two, put, rule, variables};
-use example_outcomes::{Given, Question, add_binary, add_made, found, two_rules};
+use example_outcomes::{Given, Question, add_binary, add_made, found_by, two_rules};
 use example_terms::{B, E, Language, Node, signature_of};
 use expr_core::{Expr, Op};
 use rule_core::{AddError, Atoms, Rule, Rulebook};
@@ -106,10 +106,8 @@ fn greater_by(
         inputs,
         height,
     };
-    match book(alloc, signature) {
-        Ok(book) => found(alloc, signature, &book, &GREATER, &question),
-        Err(error) => Err(error),
-    }
+    let book = book(alloc, signature);
+    found_by(alloc, signature, book, &GREATER, &question)
 }
 
 /// What the term gives at these inputs.

@@ -4,11 +4,9 @@
 #[cfg(test)]
 mod choosing;
 #[cfg(test)]
-mod counting;
-#[cfg(test)]
 mod expecting;
 #[cfg(test)]
-mod summing;
+mod looping;
 #[cfg(test)]
 mod tossing;
 #[cfg(test)]

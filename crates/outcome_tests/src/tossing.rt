@@ -4,7 +4,7 @@ ghost use Rattle.eval_core.specs.Evaluations.{IsAccepted};
 
 use crate::expecting::expect;
 use example_atoms::{giving, number};
-use example_outcomes::{Given, Question, add_constant, found, two_rules};
+use example_outcomes::{Given, Question, add_constant, found_by, two_rules};
 use example_terms::{E, LEAF, Language, signature_of};
 use rule_core::{AddError, Rulebook};
 use sig_core::{ConId, RelId, SigError, Signature};
@@ -48,10 +48,8 @@ fn given_by(
         inputs: &[],
         height: 1,
     };
-    match book(alloc, signature, first, second) {
-        Ok(book) => found(alloc, signature, &book, &LEAF, &question),
-        Err(error) => Err(error),
-    }
+    let book = book(alloc, signature, first, second);
+    found_by(alloc, signature, book, &LEAF, &question)
 }
 
 /// What two rules with these outputs give.

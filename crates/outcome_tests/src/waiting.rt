@@ -5,7 +5,7 @@ ghost use Rattle.example_atoms.specs.Rules.{IsShort};
 
 use crate::expecting::expect;
 use example_atoms::{call_itself, fill, giving, put, rule, variables};
-use example_outcomes::{Given, Question, add_unary, found, two_rules};
+use example_outcomes::{Given, Question, add_unary, found_by, two_rules};
 use example_terms::{E, LEAF, Language, signature_of};
 use expr_core::Expr;
 use rule_core::{AddError, Atoms, Rule, Rulebook};
@@ -56,10 +56,8 @@ fn at_by(
         inputs,
         height,
     };
-    match book(alloc, signature) {
-        Ok(book) => found(alloc, signature, &book, &LEAF, &question),
-        Err(error) => Err(error),
-    }
+    let book = book(alloc, signature);
+    found_by(alloc, signature, book, &LEAF, &question)
 }
 
 /// What `$slow` gives at x.

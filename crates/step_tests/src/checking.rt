@@ -1,11 +1,10 @@
 ghost use Rattle.std.specs.Prelude.{◌≡◌, IfOk};
 ghost use Rattle.term_core.specs.Banks.{IsLive};
-ghost use Rattle.step_tests.specs.Fibonacci.{fibonacci};
+ghost use Rattle.example_loops.specs.Loops.{loops};
 
-use crate::language::fibonacci;
-use crate::rules::{FIB, book};
 use crate::steps::{Row, steps_of};
 use deriv_core::BadStep;
+use example_loops::{LOOP, fibonacci_rules, loops};
 use rule_core::{AddError, Rulebook};
 use sig_core::Signature;
 use std::alloc::{AllocError, Global};
@@ -26,7 +25,7 @@ type Case = (&'static [Row], u32, usize, u8);
 fn term(signature: &Signature, bank: &mut Bank) -> Result<TermId, AllocError>
     ensures { IfOk result (IsLive bank.new) }
 {
-    bank.intern(signature, FIB, &[])
+    bank.intern(signature, LOOP, &[])
 }
 
 fn checked_by(
@@ -48,15 +47,15 @@ fn checked_in(
     rows: &[Row],
     height: u32,
 ) -> Result<Result<(), BadStep>, AddError>
-    requires { signature.now ≡ fibonacci }
+    requires { signature.now ≡ loops }
 {
-    let book = book(alloc, signature)?;
+    let book = fibonacci_rules(alloc, signature)?;
     Ok(checked_by(alloc, signature, &book, rows, height)?)
 }
 
 /// How the steps check within the height.
 fn checked(alloc: Global, rows: &[Row], height: u32) -> Result<Result<(), BadStep>, AddError> {
-    let Ok(signature) = fibonacci(alloc) else {
+    let Ok(signature) = loops(alloc) else {
         return Err(AddError::Memory);
     };
     checked_in(alloc, &signature, rows, height)
@@ -141,7 +140,7 @@ fn height_by(
 
 /// The height of the step with this number.
 fn height(alloc: Global, rows: &[Row], number: usize) -> Result<Option<usize>, AllocError> {
-    let Ok(signature) = fibonacci(alloc) else {
+    let Ok(signature) = loops(alloc) else {
         return Err(AllocError);
     };
     height_by(alloc, &signature, rows, number)

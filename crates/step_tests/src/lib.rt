@@ -4,8 +4,4 @@
 #[cfg(test)]
 mod checking;
 #[cfg(test)]
-mod language;
-#[cfg(test)]
-mod rules;
-#[cfg(test)]
 mod steps;

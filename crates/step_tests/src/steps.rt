@@ -1,8 +1,8 @@
 ghost use Rattle.std.specs.Prelude.{All, IfOk, OnOk};
 ghost use Rattle.term_core.specs.Banks.{IsLive};
 
-use crate::rules::S;
 use deriv_core::{Step, StepId, StepIds, Steps};
+use example_loops::S;
 use sig_core::{Value, Values};
 use std::alloc::{AllocError, Global};
 use term_core::{Bank, TermId};

@@ -10,7 +10,7 @@ abbrev pub the_type : TypeId
 the_type = record { 0 = 0 }
 
 abbrev pub the_constant : Constructor
-the_constant = record { name = codes "$fib"; owner = the_type; args = [] }
+the_constant = record { name = codes "$loop"; owner = the_type; args = [] }
 
 -- of a term, an input and an output
 abbrev pub gives : Relation
@@ -19,5 +19,5 @@ gives = record { name = codes "S"; params = unary_params the_type }
 abbrev pub one_constructor : Declarations
 one_constructor = record { types = codes "E" ∷ []; constructors = the_constant ∷ []; relations = [] }
 
-abbrev pub fibonacci : Declarations
-fibonacci = record { types = codes "E" ∷ []; constructors = the_constant ∷ []; relations = gives ∷ [] }
+abbrev pub loops : Declarations
+loops = record { types = codes "E" ∷ []; constructors = the_constant ∷ []; relations = gives ∷ [] }

@@ -1,8 +1,8 @@
 use Rattle.std.proofs.Common.{◌<◌, arith}
 use Rattle.std.specs.Prelude.{codes}
 use Rattle.example_relations.proofs.Fits.{unary_fits}
-use Rattle.derive_tests.specs.Counting.{the_type}
-use Rattle.derive_tests.proofs.language.counting.Goals as goal
+use Rattle.example_loops.specs.Loops.{the_type}
+use Rattle.example_loops.proofs.language.loops.Goals as goal
 
 pub add_relation-requires : goal.add_relation-requires
 add_relation-requires c =
