@@ -1,3 +1,5 @@
+ghost use Rattle.std.specs.Prelude.{◌<◌};
+
 use crate::growing::lists_to;
 use crate::whole::whole;
 use example_terms::{SUMS, signature_of};
@@ -8,16 +10,23 @@ use std::alloc::{AllocError, Global};
 use std::process::Abort;
 use term_core::Bank;
 
-/// How many terms of both types there are up to this size.
-fn count(rt: &impl Abort, lists: &SizeLists, last: u32) -> usize {
+/// How many terms of both types have this size.
+fn count_both(rt: &impl Abort, lists: &SizeLists, size: u32) -> usize
+    ensures { result < 200_000 }
+{
+    let numbers = lists.list(NtId(0), size).len();
+    let truths = lists.list(NtId(1), size).len();
+    assert!(rt; numbers < 100_000);
+    assert!(rt; truths < 100_000);
+    numbers + truths
+}
+
+/// How many have a size below the end.
+fn count(rt: &impl Abort, lists: &SizeLists, end: u32) -> usize {
     let mut total = 0usize;
-    for size in 1..last {
-        for nt in 0..2 {
-            let more = lists.list(NtId(nt), size).len();
-            assert!(rt; total < 100_000);
-            assert!(rt; more < 100_000);
-            total += more;
-        }
+    for size in 1..end {
+        assert!(rt; total < 100_000);
+        total += count_both(rt, lists, size);
     }
     total
 }

@@ -90,12 +90,17 @@ fn construct(
     Ok(())
 }
 
+fn add_types(signature: &mut Signature, names: &[&[u8]]) -> Result<(), SigError> {
+    for name in names {
+        signature.add_type(*name)?;
+    }
+    Ok(())
+}
+
 /// The signature of a language, without relations. A constructor that can't stand there is left out.
 pub fn signature_of(alloc: Global, language: &Language) -> Result<Signature, SigError> {
     let mut signature = Signature::new(alloc);
-    for name in language.types {
-        signature.add_type(*name)?;
-    }
+    add_types(&mut signature, language.types)?;
     for (name, owner, args) in language.constructors {
         construct(&mut signature, *name, *owner, *args)?;
     }

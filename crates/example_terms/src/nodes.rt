@@ -46,16 +46,27 @@ fn intern(
     Ok(())
 }
 
+/// The same, of the children with these numbers.
+fn intern_node(
+    alloc: Global,
+    signature: &Signature,
+    bank: &mut Bank,
+    con: u16,
+    numbers: &[usize],
+) -> Result<(), AllocError> {
+    let mut kids = Ids::new(alloc);
+    for number in numbers {
+        kids.push(TermId(*number))?;
+    }
+    intern(signature, bank, con, kids.as_slice())
+}
+
 /// A bank of these nodes. One whose children don't stand before it is left out. Where they are distinct, their numbers are
 /// their ids.
 pub fn interned(alloc: Global, signature: &Signature, nodes: &[Node]) -> Result<Bank, AllocError> {
     let mut bank = Bank::new(alloc);
     for (con, numbers) in nodes {
-        let mut kids = Ids::new(alloc);
-        for number in *numbers {
-            kids.push(TermId(*number))?;
-        }
-        intern(signature, &mut bank, *con, kids.as_slice())?;
+        intern_node(alloc, signature, &mut bank, *con, *numbers)?;
     }
     Ok(bank)
 }

@@ -172,22 +172,27 @@ fn rare_spellings(rt: HostRuntime) -> Result<(), Fail> {
     Ok(())
 }
 
-/// Why a file is refused whose info nests so many lists deep, its command among them.
+/// The byte, so many times.
+fn put_times(text: &mut Bytes, byte: u8, times: u32) -> Result<(), AllocError> {
+    for _ in 0..times {
+        text.push(byte)?;
+    }
+    Ok(())
+}
+
+/// Why a file is refused whose info nests so many lists deep. The list of its command stands around them.
 fn refusal_of_nested(alloc: Global, levels: u32) -> Result<Option<Refusal>, AllocError> {
     let mut text = Bytes::new(alloc);
     text.append(b"(set-info :a ")?;
-    for _ in 1..levels {
-        text.push(b'(')?;
-    }
-    for _ in 0..levels {
-        text.push(b')')?;
-    }
+    put_times(&mut text, b'(', levels)?;
+    put_times(&mut text, b')', levels)?;
+    text.push(b')')?;
     refusal_of(alloc, text.as_slice())
 }
 
 #[test]
 fn lists_nest_200_deep(rt: HostRuntime) -> Result<(), Fail> {
-    // `(set-info :a ` has 13 bytes. At 200 levels 199 and 200 parentheses follow.
+    // `(set-info :a ` has 13 bytes. At 200 levels, the command's among them, 199 and 200 parentheses follow.
     let at_end = Refusal {
         place: 412,
         reason: 60,
@@ -199,7 +204,7 @@ fn lists_nest_200_deep(rt: HostRuntime) -> Result<(), Fail> {
         reason: 5,
         limit: 0,
     };
-    assert_eq!(rt; refusal_of_nested(rt.alloc(), 200)?, Some(at_end));
-    assert_eq!(rt; refusal_of_nested(rt.alloc(), 201)?, Some(too_deep));
+    assert_eq!(rt; refusal_of_nested(rt.alloc(), 199)?, Some(at_end));
+    assert_eq!(rt; refusal_of_nested(rt.alloc(), 200)?, Some(too_deep));
     Ok(())
 }

@@ -52,112 +52,135 @@ fn repeated(
     Ok(text)
 }
 
+/// A command, what stands before an item, the item, how often it stands, what stands after it, and the place and the number
+/// of the limit that is passed.
+type LimitedList = (
+    Head,
+    &'static str,
+    &'static str,
+    u16,
+    &'static str,
+    Option<(u32, u8)>,
+);
+
+const LISTS: [LimitedList; 14] = [
+    (
+        Head::DeclareTermTypes,
+        "(declare-term-types ((",
+        "E",
+        1024,
+        " 0)) (()))",
+        None,
+    ),
+    (
+        Head::DeclareTermTypes,
+        "(declare-term-types ((",
+        "E",
+        1025,
+        " 0)) (()))",
+        Some((22, 4)),
+    ),
+    (
+        Head::DeclareTermTypes,
+        "(declare-term-types ((E 0)) ((($a",
+        " E",
+        16,
+        "))))",
+        None,
+    ),
+    (
+        Head::DeclareTermTypes,
+        "(declare-term-types ((E 0)) ((($a",
+        " E",
+        17,
+        "))))",
+        Some((30, 7)),
+    ),
+    (
+        Head::DeclareTermTypes,
+        "(declare-term-types ((E 0)) ((",
+        "a ",
+        4096,
+        ")))",
+        None,
+    ),
+    (
+        Head::DeclareTermTypes,
+        "(declare-term-types ((E 0)) ((",
+        "a ",
+        4097,
+        ")))",
+        Some((8222, 6)),
+    ),
+    (
+        Head::DeclareTermTypes,
+        "(declare-term-types (",
+        "(E 0)",
+        256,
+        ") ())",
+        None,
+    ),
+    (
+        Head::DeclareTermTypes,
+        "(declare-term-types (",
+        "(E 0)",
+        257,
+        ") ())",
+        Some((1302, 5)),
+    ),
+    (
+        Head::DefineFunsRec,
+        "(define-funs-rec ((S (",
+        "(p Int)",
+        32,
+        ") Bool)) (a))",
+        None,
+    ),
+    (
+        Head::DefineFunsRec,
+        "(define-funs-rec ((S (",
+        "(p Int)",
+        33,
+        ") Bool)) (a))",
+        Some((246, 9)),
+    ),
+    (
+        Head::SynthFun,
+        "(synth-fun f () E (",
+        "(A E)",
+        256,
+        ") ())",
+        None,
+    ),
+    (
+        Head::SynthFun,
+        "(synth-fun f () E (",
+        "(A E)",
+        257,
+        ") ())",
+        Some((1299, 12)),
+    ),
+    (
+        Head::SynthFun,
+        "(synth-fun f () E ((A E)) ((A E (",
+        "a ",
+        4096,
+        "))))",
+        None,
+    ),
+    (
+        Head::SynthFun,
+        "(synth-fun f () E ((A E)) ((A E (",
+        "a ",
+        4097,
+        "))))",
+        Some((8225, 13)),
+    ),
+];
+
 #[test]
 fn lists_end_at_their_limits(rt: HostRuntime) -> Result<(), Fail> {
-    let types = Head::DeclareTermTypes;
-    let functions = Head::DefineFunsRec;
-    let grammar = Head::SynthFun;
-    let cases = [
-        (
-            types,
-            "(declare-term-types ((",
-            "E",
-            1024,
-            " 0)) (()))",
-            None,
-        ),
-        (
-            types,
-            "(declare-term-types ((",
-            "E",
-            1025,
-            " 0)) (()))",
-            Some((22, 4)),
-        ),
-        (
-            types,
-            "(declare-term-types ((E 0)) ((($a",
-            " E",
-            16,
-            "))))",
-            None,
-        ),
-        (
-            types,
-            "(declare-term-types ((E 0)) ((($a",
-            " E",
-            17,
-            "))))",
-            Some((30, 7)),
-        ),
-        (
-            types,
-            "(declare-term-types ((E 0)) ((",
-            "a ",
-            4096,
-            ")))",
-            None,
-        ),
-        (
-            types,
-            "(declare-term-types ((E 0)) ((",
-            "a ",
-            4097,
-            ")))",
-            Some((8222, 6)),
-        ),
-        (types, "(declare-term-types (", "(E 0)", 256, ") ())", None),
-        (
-            types,
-            "(declare-term-types (",
-            "(E 0)",
-            257,
-            ") ())",
-            Some((1302, 5)),
-        ),
-        (
-            functions,
-            "(define-funs-rec ((S (",
-            "(p Int)",
-            32,
-            ") Bool)) (a))",
-            None,
-        ),
-        (
-            functions,
-            "(define-funs-rec ((S (",
-            "(p Int)",
-            33,
-            ") Bool)) (a))",
-            Some((246, 9)),
-        ),
-        (grammar, "(synth-fun f () E (", "(A E)", 256, ") ())", None),
-        (
-            grammar,
-            "(synth-fun f () E (",
-            "(A E)",
-            257,
-            ") ())",
-            Some((1299, 12)),
-        ),
-        (
-            grammar,
-            "(synth-fun f () E ((A E)) ((A E (",
-            "a ",
-            4096,
-            "))))",
-            None,
-        ),
-        (
-            grammar,
-            "(synth-fun f () E ((A E)) ((A E (",
-            "a ",
-            4097,
-            "))))",
-            Some((8225, 13)),
-        ),
-    ];
-    for (command, front, item, times, back, wanted) in cases {
+    for (command, front, item, times, back, wanted) in LISTS {
         let text = repeated(
             rt.alloc(),
             front.as_bytes(),

@@ -4,12 +4,15 @@ use std::process::Abort;
 use std::test::Fail;
 use syntax_core::{Fault, Head};
 
-/// Whether each text has its wrong name at this place, for this reason.
+/// A text, and the place and the reason of its first wrong name.
+type Case = (&'static str, u32, u8);
+
+/// Ends the test unless each text has its wrong name at this place, for this reason.
 fn check_names(
     rt: &impl Abort,
     alloc: Global,
     command: Head,
-    cases: &[(&str, u32, u8)],
+    cases: &[Case],
 ) -> Result<(), AllocError> {
     for (text, place, reason) in cases {
         let fault = Fault {
@@ -40,119 +43,121 @@ fn names_of_types(rt: HostRuntime) -> Result<(), Fail> {
     Ok(())
 }
 
+const OF_FUNCTIONS: [Case; 12] = [
+    (
+        "(define-funs-rec ((and ((t E)) Bool)) ((! (match t ()) :input () :output ())))",
+        19,
+        21,
+    ),
+    (
+        "(define-funs-rec ((S ((t E)) Bool) (S ((t E)) Bool)) ((! (match t ()) :input () :output ()) (! (match t ()) :input () :output ())))",
+        36,
+        21,
+    ),
+    (
+        "(define-funs-rec ((S ((t E) (t Int)) Bool)) ((! (match t ()) :input () :output ())))",
+        29,
+        21,
+    ),
+    (
+        "(define-funs-rec ((S ((t E) (not Int)) Bool)) ((! (match t ()) :input () :output ())))",
+        29,
+        21,
+    ),
+    (
+        "(define-funs-rec ((S ((t F)) Bool)) ((! (match t ()) :input () :output ())))",
+        25,
+        20,
+    ),
+    (
+        "(define-funs-rec ((S ((t E) (r Int)) Bool)) ((! (match t ()) :input () :output ())))",
+        45,
+        20,
+    ),
+    (
+        "(define-funs-rec ((S ((t E) (r Int)) Bool)) ((! (match r ()) :input () :output (r))))",
+        55,
+        20,
+    ),
+    (
+        "(define-funs-rec ((S ((t E) (r Int)) Bool)) ((! (match t (($b true))) :input () :output (r))))",
+        59,
+        20,
+    ),
+    (
+        "(define-funs-rec ((S ((t E) (r Int)) Bool)) ((! (match t ((($+ u r) true))) :input () :output (r))))",
+        65,
+        21,
+    ),
+    (
+        "(define-funs-rec ((S ((t E) (r Int)) Bool)) ((! (match t ((($+ u u) true))) :input () :output (r))))",
+        65,
+        21,
+    ),
+    (
+        "(define-funs-rec ((S ((t E) (r Int)) Bool)) ((! (match t ()) :input (t) :output (r))))",
+        69,
+        20,
+    ),
+    (
+        "(define-funs-rec ((S ((t E) (r Int)) Bool)) ((! (match t ()) :input (r) :output (r))))",
+        81,
+        21,
+    ),
+];
+
 #[test]
 fn names_of_functions(rt: HostRuntime) -> Result<(), Fail> {
-    let cases = [
-        (
-            "(define-funs-rec ((and ((t E)) Bool)) ((! (match t ()) :input () :output ())))",
-            19,
-            21,
-        ),
-        (
-            "(define-funs-rec ((S ((t E)) Bool) (S ((t E)) Bool)) ((! (match t ()) :input () :output ()) (! (match t ()) :input () :output ())))",
-            36,
-            21,
-        ),
-        (
-            "(define-funs-rec ((S ((t E) (t Int)) Bool)) ((! (match t ()) :input () :output ())))",
-            29,
-            21,
-        ),
-        (
-            "(define-funs-rec ((S ((t E) (not Int)) Bool)) ((! (match t ()) :input () :output ())))",
-            29,
-            21,
-        ),
-        (
-            "(define-funs-rec ((S ((t F)) Bool)) ((! (match t ()) :input () :output ())))",
-            25,
-            20,
-        ),
-        (
-            "(define-funs-rec ((S ((t E) (r Int)) Bool)) ((! (match t ()) :input () :output ())))",
-            45,
-            20,
-        ),
-        (
-            "(define-funs-rec ((S ((t E) (r Int)) Bool)) ((! (match r ()) :input () :output (r))))",
-            55,
-            20,
-        ),
-        (
-            "(define-funs-rec ((S ((t E) (r Int)) Bool)) ((! (match t (($b true))) :input () :output (r))))",
-            59,
-            20,
-        ),
-        (
-            "(define-funs-rec ((S ((t E) (r Int)) Bool)) ((! (match t ((($+ u r) true))) :input () :output (r))))",
-            65,
-            21,
-        ),
-        (
-            "(define-funs-rec ((S ((t E) (r Int)) Bool)) ((! (match t ((($+ u u) true))) :input () :output (r))))",
-            65,
-            21,
-        ),
-        (
-            "(define-funs-rec ((S ((t E) (r Int)) Bool)) ((! (match t ()) :input (t) :output (r))))",
-            69,
-            20,
-        ),
-        (
-            "(define-funs-rec ((S ((t E) (r Int)) Bool)) ((! (match t ()) :input (r) :output (r))))",
-            81,
-            21,
-        ),
-    ];
-    check_names(&rt, rt.alloc(), Head::DefineFunsRec, &cases)?;
+    check_names(&rt, rt.alloc(), Head::DefineFunsRec, &OF_FUNCTIONS)?;
     Ok(())
 }
 
+const IN_BODIES: [Case; 8] = [
+    (
+        "(define-funs-rec ((S ((t E) (r Int)) Bool)) ((! (match t ((($+ u w) (exists ((u Int)) true)))) :input () :output (r))))",
+        78,
+        21,
+    ),
+    (
+        "(define-funs-rec ((S ((t E) (r Int)) Bool)) ((! (match t ((($+ u w) (exists ((v E)) true)))) :input () :output (r))))",
+        80,
+        20,
+    ),
+    (
+        "(define-funs-rec ((S ((t E) (r Int)) Bool)) ((! (match t ((($+ u w) (exists ((v Int)) (exists ((v Int)) true))))) :input () :output (r))))",
+        96,
+        21,
+    ),
+    (
+        "(define-funs-rec ((S ((t E) (r Int)) Bool)) ((! (match t ((($+ u w) (= r v)))) :input () :output (r))))",
+        73,
+        20,
+    ),
+    (
+        "(define-funs-rec ((S ((t E) (r Int)) Bool)) ((! (match t ((($+ u w) (f r)))) :input () :output (r))))",
+        69,
+        20,
+    ),
+    (
+        "(define-funs-rec ((S ((t E) (r Int)) Bool)) ((! (match t ((($+ u w) (= r -01)))) :input () :output (r))))",
+        73,
+        20,
+    ),
+    (
+        "(define-funs-rec ((S ((t E) (r Int)) Bool)) ((! (match t ((($+ u w) (and (S u 1) (= r (ite true r q)))))) :input () :output (r))))",
+        98,
+        20,
+    ),
+    (
+        "(define-funs-rec ((S ((t E) (r Int)) Bool)) ((! (match t ((($+ u w) (or (exists ((v Int)) true) (= r v))))) :input () :output (r))))",
+        101,
+        20,
+    ),
+];
+
 #[test]
 fn names_in_bodies(rt: HostRuntime) -> Result<(), Fail> {
-    let cases = [
-        (
-            "(define-funs-rec ((S ((t E) (r Int)) Bool)) ((! (match t ((($+ u w) (exists ((u Int)) true)))) :input () :output (r))))",
-            78,
-            21,
-        ),
-        (
-            "(define-funs-rec ((S ((t E) (r Int)) Bool)) ((! (match t ((($+ u w) (exists ((v E)) true)))) :input () :output (r))))",
-            80,
-            20,
-        ),
-        (
-            "(define-funs-rec ((S ((t E) (r Int)) Bool)) ((! (match t ((($+ u w) (exists ((v Int)) (exists ((v Int)) true))))) :input () :output (r))))",
-            96,
-            21,
-        ),
-        (
-            "(define-funs-rec ((S ((t E) (r Int)) Bool)) ((! (match t ((($+ u w) (= r v)))) :input () :output (r))))",
-            73,
-            20,
-        ),
-        (
-            "(define-funs-rec ((S ((t E) (r Int)) Bool)) ((! (match t ((($+ u w) (f r)))) :input () :output (r))))",
-            69,
-            20,
-        ),
-        (
-            "(define-funs-rec ((S ((t E) (r Int)) Bool)) ((! (match t ((($+ u w) (= r -01)))) :input () :output (r))))",
-            73,
-            20,
-        ),
-        (
-            "(define-funs-rec ((S ((t E) (r Int)) Bool)) ((! (match t ((($+ u w) (and (S u 1) (= r (ite true r q)))))) :input () :output (r))))",
-            98,
-            20,
-        ),
-        (
-            "(define-funs-rec ((S ((t E) (r Int)) Bool)) ((! (match t ((($+ u w) (or (exists ((v Int)) true) (= r v))))) :input () :output (r))))",
-            101,
-            20,
-        ),
-    ];
-    check_names(&rt, rt.alloc(), Head::DefineFunsRec, &cases)?;
+    check_names(&rt, rt.alloc(), Head::DefineFunsRec, &IN_BODIES)?;
     Ok(())
 }
 

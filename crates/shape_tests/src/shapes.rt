@@ -35,12 +35,11 @@ fn is_refused(alloc: Global, text: &str, place: u32, reason: u8) -> Result<bool,
     Ok(fault_of(alloc, text.as_bytes())? == Some(fault))
 }
 
-/// Whether each text is refused at its place and for its reason.
-fn check_refused(
-    rt: &impl Abort,
-    alloc: Global,
-    cases: &[(&str, u32, u8)],
-) -> Result<(), AllocError> {
+/// A text, and the place and the reason of its refusal.
+type Case = (&'static str, u32, u8);
+
+/// Ends the test unless each text is refused at its place and for its reason.
+fn check_refused(rt: &impl Abort, alloc: Global, cases: &[Case]) -> Result<(), AllocError> {
     for (text, place, reason) in cases {
         assert!(rt; is_refused(alloc, text, *place, *reason)?, "{text}");
     }
@@ -69,113 +68,115 @@ fn words_and_order(rt: HostRuntime) -> Result<(), Fail> {
     Ok(())
 }
 
+const DECLARATIONS: [Case; 21] = [
+    ("(set-info)", 0, 10),
+    ("(set-info a)", 10, 10),
+    ("(set-info :a b c)", 0, 10),
+    ("(declare-term-types ((E 0)))", 0, 10),
+    ("(declare-term-types ((E 0)) ())", 0, 10),
+    ("(declare-term-types x ())", 20, 10),
+    ("(declare-term-types (E) (()))", 21, 10),
+    ("(declare-term-types ((E 1)) (()))", 24, 10),
+    ("(declare-term-types ((E 0)) ($a))", 29, 10),
+    ("(declare-term-types ((E 0)) ((())))", 30, 10),
+    ("(declare-term-types ((E 0)) (($a (0))))", 34, 10),
+    ("(define-funs-rec ((S () Bool)) ())", 0, 10),
+    ("(define-funs-rec ((S () Int)) ((a)))", 24, 10),
+    ("(define-funs-rec ((S ())) ((a)))", 18, 10),
+    (
+        "(define-funs-rec ((S ((t E)) Bool)) ((! (match t ()) :input () :input ())))",
+        37,
+        10,
+    ),
+    (
+        "(define-funs-rec ((S ((t E)) Bool)) ((let (match t ()) :input () :output ())))",
+        37,
+        10,
+    ),
+    (
+        "(define-funs-rec ((S ((t E)) Bool)) ((! (match t ()) :input x :output ())))",
+        60,
+        10,
+    ),
+    (
+        "(define-funs-rec ((S ((t E)) Bool)) ((! (match t ()) :input (x 1) :output ())))",
+        63,
+        10,
+    ),
+    (
+        "(define-funs-rec ((S ((t E)) Bool)) ((! (case t ()) :input () :output ())))",
+        40,
+        10,
+    ),
+    (
+        "(define-funs-rec ((S ((t E)) Bool)) ((! (match t (($a))) :input () :output ())))",
+        50,
+        10,
+    ),
+    (
+        "(define-funs-rec ((S ((t E)) Bool)) ((! (match t ((($a 1) true))) :input () :output ())))",
+        55,
+        10,
+    ),
+];
+
 #[test]
 fn shapes_of_declarations(rt: HostRuntime) -> Result<(), Fail> {
-    let cases = [
-        ("(set-info)", 0, 10),
-        ("(set-info a)", 10, 10),
-        ("(set-info :a b c)", 0, 10),
-        ("(declare-term-types ((E 0)))", 0, 10),
-        ("(declare-term-types ((E 0)) ())", 0, 10),
-        ("(declare-term-types x ())", 20, 10),
-        ("(declare-term-types (E) (()))", 21, 10),
-        ("(declare-term-types ((E 1)) (()))", 24, 10),
-        ("(declare-term-types ((E 0)) ($a))", 29, 10),
-        ("(declare-term-types ((E 0)) ((())))", 30, 10),
-        ("(declare-term-types ((E 0)) (($a (0))))", 34, 10),
-        ("(define-funs-rec ((S () Bool)) ())", 0, 10),
-        ("(define-funs-rec ((S () Int)) ((a)))", 24, 10),
-        ("(define-funs-rec ((S ())) ((a)))", 18, 10),
-        (
-            "(define-funs-rec ((S ((t E)) Bool)) ((! (match t ()) :input () :input ())))",
-            37,
-            10,
-        ),
-        (
-            "(define-funs-rec ((S ((t E)) Bool)) ((let (match t ()) :input () :output ())))",
-            37,
-            10,
-        ),
-        (
-            "(define-funs-rec ((S ((t E)) Bool)) ((! (match t ()) :input x :output ())))",
-            60,
-            10,
-        ),
-        (
-            "(define-funs-rec ((S ((t E)) Bool)) ((! (match t ()) :input (x 1) :output ())))",
-            63,
-            10,
-        ),
-        (
-            "(define-funs-rec ((S ((t E)) Bool)) ((! (case t ()) :input () :output ())))",
-            40,
-            10,
-        ),
-        (
-            "(define-funs-rec ((S ((t E)) Bool)) ((! (match t (($a))) :input () :output ())))",
-            50,
-            10,
-        ),
-        (
-            "(define-funs-rec ((S ((t E)) Bool)) ((! (match t ((($a 1) true))) :input () :output ())))",
-            55,
-            10,
-        ),
-    ];
-    check_refused(&rt, rt.alloc(), &cases)?;
+    check_refused(&rt, rt.alloc(), &DECLARATIONS)?;
     Ok(())
 }
 
+const BODIES: [Case; 9] = [
+    (
+        "(define-funs-rec ((S ((t E)) Bool)) ((! (match t (($a (or)))) :input () :output ())))",
+        54,
+        10,
+    ),
+    (
+        "(define-funs-rec ((S ((t E)) Bool)) ((! (match t (($a (exists ((x Int)))))) :input () :output ())))",
+        54,
+        10,
+    ),
+    (
+        "(define-funs-rec ((S ((t E)) Bool)) ((! (match t (($a (exists ((x)) true)))) :input () :output ())))",
+        63,
+        10,
+    ),
+    (
+        "(define-funs-rec ((S ((t E)) Bool)) ((! (match t (($a (and (exists () true))))) :input () :output ())))",
+        59,
+        10,
+    ),
+    (
+        "(define-funs-rec ((S ((t E)) Bool)) ((! (match t (($a (and true ((f) 1))))) :input () :output ())))",
+        65,
+        10,
+    ),
+    (
+        "(define-funs-rec ((S ((t E)) Bool)) ((! (match t (($a (forall () true)))) :input () :output ())))",
+        54,
+        10,
+    ),
+    (
+        "(define-funs-rec ((S ((t E)) Bool)) ((! (match t (($a (= r (abs 1 2))))) :input () :output ())))",
+        59,
+        10,
+    ),
+    (
+        "(define-funs-rec ((S ((t E)) Bool)) ((! (match t (($a (S t :a)))) :input () :output ())))",
+        59,
+        10,
+    ),
+    (
+        "(define-funs-rec ((S ((t E)) Bool)) ((! (match t (($a (or true (and true (not)))))) :input () :output ())))",
+        73,
+        10,
+    ),
+];
+
 #[test]
 fn shapes_of_bodies(rt: HostRuntime) -> Result<(), Fail> {
-    let cases = [
-        (
-            "(define-funs-rec ((S ((t E)) Bool)) ((! (match t (($a (or)))) :input () :output ())))",
-            54,
-            10,
-        ),
-        (
-            "(define-funs-rec ((S ((t E)) Bool)) ((! (match t (($a (exists ((x Int)))))) :input () :output ())))",
-            54,
-            10,
-        ),
-        (
-            "(define-funs-rec ((S ((t E)) Bool)) ((! (match t (($a (exists ((x)) true)))) :input () :output ())))",
-            63,
-            10,
-        ),
-        (
-            "(define-funs-rec ((S ((t E)) Bool)) ((! (match t (($a (and (exists () true))))) :input () :output ())))",
-            59,
-            10,
-        ),
-        (
-            "(define-funs-rec ((S ((t E)) Bool)) ((! (match t (($a (and true ((f) 1))))) :input () :output ())))",
-            65,
-            10,
-        ),
-        (
-            "(define-funs-rec ((S ((t E)) Bool)) ((! (match t (($a (forall () true)))) :input () :output ())))",
-            54,
-            10,
-        ),
-        (
-            "(define-funs-rec ((S ((t E)) Bool)) ((! (match t (($a (= r (abs 1 2))))) :input () :output ())))",
-            59,
-            10,
-        ),
-        (
-            "(define-funs-rec ((S ((t E)) Bool)) ((! (match t (($a (S t :a)))) :input () :output ())))",
-            59,
-            10,
-        ),
-        (
-            "(define-funs-rec ((S ((t E)) Bool)) ((! (match t (($a (or true (and true (not)))))) :input () :output ())))",
-            73,
-            10,
-        ),
-    ];
-    check_refused(&rt, rt.alloc(), &cases)?;
+    check_refused(&rt, rt.alloc(), &BODIES)?;
     Ok(())
 }
 

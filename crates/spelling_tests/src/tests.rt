@@ -110,15 +110,19 @@ fn refuses_what_is_no_spelling(rt: HostRuntime) -> Result<(), Fail> {
     Ok(())
 }
 
+/// The byte, so many times.
+fn put_times(text: &mut Bytes, byte: u8, times: usize) -> Result<(), AllocError> {
+    for _ in 0..times {
+        text.push(byte)?;
+    }
+    Ok(())
+}
+
 /// So many opening parentheses, and as many closing ones.
 fn nested(alloc: Global, levels: usize) -> Result<Bytes, AllocError> {
     let mut text = Bytes::new(alloc);
-    for _ in 0..levels {
-        text.push(b'(')?;
-    }
-    for _ in 0..levels {
-        text.push(b')')?;
-    }
+    put_times(&mut text, b'(', levels)?;
+    put_times(&mut text, b')', levels)?;
     Ok(text)
 }
 
