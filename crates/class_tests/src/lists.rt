@@ -1,4 +1,4 @@
-ghost use Rattle.std.specs.Prelude.{◌<◌};
+ghost use Rattle.std.specs.Prelude.{◌<◌, ◌≤◌};
 
 use crate::growing::lists_to;
 use crate::whole::whole;
@@ -12,6 +12,7 @@ use term_core::Bank;
 
 /// How many terms of both types have this size.
 fn count_both(rt: &impl Abort, lists: &SizeLists, size: u32) -> usize
+    requires { 1 ≤ size }
     ensures { result < 200_000 }
 {
     let numbers = lists.list(NtId(0), size).len();
